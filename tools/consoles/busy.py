@@ -53,8 +53,8 @@ class Session:
         # A discipline holds two characters less than a flip buffer: these come to the second read.
         self._phase([["read 0 4096"]] * CONSOLES)
         self._phase([["read 0 4096"]] * CONSOLES)
-        for round, typed in enumerate(self.typed[1:]):
-            self._phase([["write 0 " + text.hex() for text in rounds[round]] for rounds in self.written], typed)
+        for place, typed in enumerate(self.typed[1:]):
+            self._phase([["write 0 " + text.hex() for text in rounds[place]] for rounds in self.written], typed)
             self._phase([["read 0 4096"]] * CONSOLES)
         self.lines += ["end"]
 

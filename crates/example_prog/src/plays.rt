@@ -10,8 +10,11 @@ use tty_rows::{told_of, told_on_threads, with_journals};
 /// alone, or a caller who waits for the line.
 const ALIKE: [&str; 5] = ["login", "mode_words", "output", "overruns", "unread_line"];
 
-/// The examples that are sessions of consoles, and those of processes. No schedule can change the report of the former.
+/// The examples that are sessions of consoles, of ports with modem lines, and of processes. No schedule can change the
+/// report of the first.
 const CONSOLES: [&str; 1] = ["two_consoles"];
+
+const MODEM_LINES: [&str; 1] = ["dial_in"];
 
 const PROCESSES: [&str; 1] = ["shell_jobs"];
 
@@ -24,6 +27,9 @@ pub(crate) fn fault_of<R: Threads + Wait + Sync>(
     let report = example.report.as_slice();
     if CONSOLES.contains(&example.name.as_str()) {
         return fault_of_consoles(rt, alloc, example);
+    }
+    if MODEM_LINES.contains(&example.name.as_str()) {
+        return fault_alone(alloc, &["modem"], example);
     }
     if PROCESSES.contains(&example.name.as_str()) {
         return fault_alone(alloc, &["jobs"], example);

@@ -9,6 +9,8 @@ mod journals;
 #[cfg(test)]
 mod long;
 #[cfg(test)]
+mod modems;
+#[cfg(test)]
 mod processes;
 #[cfg(test)]
 mod sessions;

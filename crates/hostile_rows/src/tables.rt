@@ -9,6 +9,8 @@ pub(crate) const ONE: &[&str] = &["run", "--one"];
 
 pub(crate) const CHECK: &[&str] = &["check"];
 
+pub(crate) const MODEM: &[&str] = &["modem"];
+
 pub(crate) const JOBS: &[&str] = &["jobs"];
 
 /// The first word of a row, and what stands behind the blank after it.

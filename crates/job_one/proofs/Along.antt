@@ -1,5 +1,5 @@
 -- The desk goes along with the line of a phase.
-use Rattle.std.proofs.Common.{◌≡◌, ◌≤◌, ℕ, ◌+◌, Bool, true, false, List, [], ◌∷◌, ◌++◌, IsTrue, if◌then◌else◌}
+use Rattle.std.proofs.Common.{◌≡◌, ◌≤◌, ℕ, Bool, true, false, List, [], ◌∷◌, ◌++◌, IsTrue, if◌then◌else◌}
 use Rattle.std.proofs.Common.{length, drop, refl, sym, ap, ◌∙◌, subst, arith, append-nil, length-drop}
 use Rattle.std.specs.Prelude.{All}
 use Rattle.std.proofs.lemmas.Bool.{false≢true}
@@ -148,7 +148,7 @@ pub stands_on : (first : Scene) (session : JobsSession) (v w : PortValue) (part 
     → StandsAt first session v d
     → StandsAt first session w d
 stands_on first session v w part d by had h =
-    record { number = h.number; desk = desk_stays first session d.log v w part d.jobs d.next d.sent [] by had h.desk }
+    record { number = h.number; desk = desk_stays first session d.log v w part d.jobs d.next d.sent by had h.desk }
 
 no_new : (w : PortValue) (d : DeskState) → length (signals_of w.terminal) ≤ d.sent → new_sent_on w d ≡ d
 no_new w d few = ap (λ (ss : List Signal). all_sent_on w ss d)

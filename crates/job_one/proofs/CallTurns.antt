@@ -41,6 +41,7 @@ use Rattle.passed_laws.proofs.Witnessed.{in_call}
 use Rattle.passed_laws.proofs.Attempted.{call_is}
 use Rattle.passed_laws.proofs.Overs.{over_call}
 use Rattle.job_one.proofs.Phasing.{signals_stay}
+use Rattle.job_one.proofs.Begins.{step_in_phase}
 use Rattle.job_one.proofs.Turning.{due_goes_on, call_waits, call_answered}
 
 -- what an answer makes of job control and of what is due, as the desk makes it
@@ -159,7 +160,7 @@ module _ (f : Frame) (roles : List Role) where
   waits_at old new d was now place call tried at h is port later waits tries plays = record {
     number = at.number;
     playing = call_waits f.first f.session f.scripts roles f.start d.log old new (value_at d) f.ticks was now place
-        h.role call tried nothing at.playing h.calling is h.at_place port h.has h.goes_on waits tries plays;
+        h.role call tried nothing at.playing refl h.calling is h.at_place port h.has h.goes_on waits tries plays;
     all_sent = subst (λ (ss : List Signal). length ss ≤ d.sent)
         (sym (still_at old new d was now place call tried h is port later tries plays)) at.all_sent;
   }
@@ -249,7 +250,9 @@ module _ (f : Frame) (roles : List Role) where
       let are = is_answered d.jobs call answer in
       let on = call_answered f.first f.session f.scripts roles f.start d.log old new (value_at d) f.ticks was now place
       h.role call answer nothing at.playing h.calling is h.at_place
-      port refl at.all_sent h.known h.has h.goes_on tries plays in
+      port later refl at.all_sent h.known h.has
+      (step_in_phase f.first.port f.session f.start.terminal.phase c (slice_index_or d.next c 0) h.from h.to)
+      h.goes_on tries plays in
       let on_desk : Plays new now y.log
       (record {
         jobs = jobs_passed d.jobs call answer;

@@ -1,6 +1,6 @@
 -- The desk of a port, event by event and entry by entry.
-use Rattle.std.proofs.Common.{◌≡◌, ◌≤◌, inl, inr, ℕ, ◌+◌, Bool, true, false, List, [], ◌∷◌, ◌++◌, IsTrue}
-use Rattle.std.proofs.Common.{Option, Some, length, refl, sym, ap, ◌∙◌, subst, arith, get_or-set_other}
+use Rattle.std.proofs.Common.{◌≡◌, ◌≤◌, ◌<◌, inl, inr, ℕ, ◌+◌, Bool, true, false, List, [], ◌∷◌, ◌++◌, IsTrue}
+use Rattle.std.proofs.Common.{Option, Some, length, length-append, refl, sym, ap, ◌∙◌, subst, arith, get_or-set_other}
 use Rattle.std.specs.Prelude.{slice_get, slice_index_or, slice_set}
 use Rattle.std.proofs.lemmas.Bool.{cases_eq, false≢true}
 use Rattle.tty_base.specs.declared.counters.Signal.{Signal}
@@ -10,7 +10,7 @@ use Rattle.tty_calls.specs.Plain.{sets_disc, flushes, steers, counts_input, coun
 use Rattle.tty_calls.specs.Plain.{drains, gets_counts, hangs_up, sends_packet, takes_packet, PlainAnswer, done}
 use Rattle.tty_calls.specs.Plain.{count_is, got, number_is, modes_are, counts_are, refused, idle, PlainEntry}
 use Rattle.tty_terminal.specs.Terminals.{caller_at, has_begun}
-use Rattle.port_core.specs.Ports.{PortValue, IsPort}
+use Rattle.port_core.specs.Ports.{PortValue, IsPort, call_in}
 use Rattle.one_thread.specs.Order.{is_of_consoles}
 use Rattle.one_thread.specs.Roles.{Scene}
 use Rattle.one_thread.specs.Turns.{role_numbers, IsTurn}
@@ -28,6 +28,8 @@ use Rattle.passed_calls.specs.Journals.{Journal}
 use Rattle.passed_calls.specs.Scripts.{plain}
 use Rattle.job_text.specs.Events.{JobEvent, own, passed, passed_down, sent, JobLog}
 use Rattle.job_text.specs.Sessions.{JobCall, JobsSession}
+use Rattle.job_steps.specs.Derived.{IsStepIn}
+use Rattle.job_steps.proofs.Moments.{after_passed_now}
 use Rattle.job_steps.specs.Steps.{JobsState, next_of, next_call, with_jobs, answered_for}
 use Rattle.job_steps.specs.Steps.{after_own, after_passed, after_event, outcome_of, is_own}
 use Rattle.job_steps.specs.Steps.{is_of_step, judged_call, job_signal, foreground_target}
@@ -35,13 +37,34 @@ use Rattle.passed_laws.specs.Later.{IsLater, ComesBy, WasAnswered}
 use Rattle.job_one.specs.Later.{port_with, HasLogged, HasGoneOn}
 use Rattle.job_one.specs.Ordered.{HasOrdered}
 use Rattle.passed_laws.specs.Begun.{HadBegun}
-use Rattle.job_one.specs.Desk.{proc_in, call_after, signals_of, IsDeskAt, jobs_passed, due_passed}
+use Rattle.job_one.specs.Desk.{proc_in, call_after, signals_of, IsLoggedAt, ComeAtOnce, IsDeskAt, jobs_passed}
+use Rattle.job_one.specs.Desk.{due_passed}
 use Rattle.job_one.proofs.Logging.{log_stays, logs_own, logs_passed, logs_due, logs_down}
 use Rattle.job_one.proofs.Logging.{logs_raised, own_comes, due_comes, down_comes, raised_comes}
 use Rattle.job_one.proofs.Gone.{gone_begins, gone_stays, gone_behind}
 use Rattle.job_one.proofs.Ordering.{ordered_stays, ordered_sent, ordered_down, ordered_own, ordered_passed}
 
+-- an entry that begins no call
+stays_at : (first : Scene) (session : JobsSession) (log : JobLog) (v w : PortValue) (part : List PlainEntry)
+    (u : JobsState)
+    → ComesBy v w part
+    → ((c : ℕ) → HadBegun v w c)
+    → IsLoggedAt first session log v u
+    → IsLoggedAt first session log w u
+stays_at first session log v w part u by had h = record {
+  logged = log_stays first.port session log v w part u by h.logged;
+  ordered = ordered_stays first session log v w part by h.ordered;
+  gone_on = λ c begun.
+      let was = had c begun in
+      subst (λ (n : ℕ). HasGoneOn first.port session w u c n) (sym was.1)
+      (gone_stays first.port session v w part u c (caller_at v.terminal c).next by (h.gone_on c was.0));
+}
+
 -- ---- what is due
+
+come_at_once : (due : List JobEvent) (n : ℕ) → ComeAtOnce due n n
+come_at_once [] n = tt
+come_at_once (e ∷ due) n = refl
 
 pub desk_sends : (first : Scene) (session : JobsSession) (log : JobLog) (v : PortValue) (jobs : JobState)
     (next : List ℕ) (signals : ℕ) (signal : JobSignal) (target : Target) (rest : List JobEvent)
@@ -56,7 +79,7 @@ desk_sends first session log v jobs next signals signal target rest h =
     record {
       state = then;
       at = record {
-        logged = logs_due first.port session log v u signal target rest h.at.logged h.due_are;
+        logged = logs_due first.port session log v u signal target rest h.at.logged h.due_are h.at_once;
         ordered = ordered_sent first session log v u signal target h.at.logged h.at.ordered;
         gone_on = λ c begun. gone_behind first.port session v u then (sent signal target) c
             (caller_at v.terminal c).next (due_comes first.port session v u signal target rest h.due_are) refl
@@ -66,32 +89,42 @@ desk_sends first session log v jobs next signals signal target rest h =
       next_are = h.next_are;
       signals_are = h.signals_are;
       due_are = refl;
+      at_once = come_at_once rest n;
     }
 
-pub desk_hangs_up : (first : Scene) (session : JobsSession) (log : JobLog) (v : PortValue) (jobs : JobState)
-    (next : List ℕ) (signals : ℕ) (c step handle : ℕ) (rest : List JobEvent)
-    → IsDeskAt first session log v jobs next signals (passed_down c handle ∷ rest)
+pub desk_hangs_up : (first : Scene) (session : JobsSession) (log : JobLog) (old v : PortValue) (e : PlainEntry)
+    (jobs : JobState) (next : List ℕ) (signals : ℕ) (c step handle : ℕ) (rest : List JobEvent)
+    → ComesBy old v (e ∷ [])
+    → ((x : ℕ) → HadBegun old v x)
+    → IsDeskAt first session log old jobs next signals (passed_down c handle ∷ rest)
+    → call_in v.kept c step ≡ Some (hangs_up handle)
     → WasAnswered v c step done
     → IsDeskAt first session
     (log ++ record { port = first.port; at = length v.journal; event = passed_down c handle } ∷ [])
     v jobs next signals rest
-desk_hangs_up first session log v jobs next signals c step handle rest h was =
+desk_hangs_up first session log old v e jobs next signals c step handle rest by had h kept was =
     let u = h.state in
     let n = length v.journal in
     let then : JobsState = record (with_jobs u n u.now.jobs) { due = rest } in
+    let stayed : IsLoggedAt first session log v u = stays_at first session log old v (e ∷ []) u by had h.at in
+    let since = h.at_once in
+    let count = length-append old.journal (e ∷ []) in
+    let added = ap (λ (es : List PlainEntry). length es) by.added in
+    let now : n ≡ u.now.at + 1 = omega (arith, since, count, added) in
     record {
       state = then;
       at = record {
-        logged = logs_down first.port session log v u c step handle rest h.at.logged h.due_are was;
-        ordered = ordered_down first session log v u c handle h.at.logged h.at.ordered;
+        logged = logs_down first.port session log v u c step handle rest stayed.logged h.due_are now kept was;
+        ordered = ordered_down first session log v u c handle stayed.logged stayed.ordered;
         gone_on = λ d begun. gone_behind first.port session v u then (passed_down c handle) d
             (caller_at v.terminal d).next (down_comes first.port session v u c handle rest h.due_are) refl
-            (h.at.gone_on d begun);
+            (stayed.gone_on d begun);
       };
       jobs_are = h.jobs_are;
       next_are = h.next_are;
       signals_are = h.signals_are;
       due_are = refl;
+      at_once = come_at_once rest n;
     }
 
 -- ---- a signal that a flush has raised
@@ -131,6 +164,7 @@ desk_raises first session log old v e jobs next signals signal was port by h fre
       next_are = h.next_are;
       signals_are = ap (λ (i : ℕ). i + 1) h.signals_are;
       due_are = refl;
+      at_once = tt;
     } in
     subst (λ (state : JobState). IsDeskAt first session
     (log ++ record { port = first.port; at = n; event = sent (job_signal signal) (foreground_target state) } ∷ []) v
@@ -155,6 +189,7 @@ pub desk_answers : (first : Scene) (session : JobsSession) (log : JobLog) (scrip
     → length (signals_of v.terminal) ≤ signals
     → has_begun (caller_at v.terminal r.number) ≡ false
     → call_after session first.port next r.number ≡ Some call
+    → IsStepIn first.port session v.terminal.phase r.number (slice_index_or next r.number 0)
     → IsTrue (is_own jobs v.terminal (proc_in session first.port r.number) call)
     → IsDeskAt first session
     (log
@@ -167,7 +202,7 @@ pub desk_answers : (first : Scene) (session : JobsSession) (log : JobLog) (scrip
     (slice_set next r.number (slice_index_or next r.number 0 + 1)) signals
     (outcome_of jobs v.terminal (proc_in session first.port r.number) r.number call).due
 desk_answers first session log scripts roles start v ticks stand place r jobs
-    next signals call d each whose is port h few rest has its =
+    next signals call d each whose is port h few rest has in_phase its =
     let u = h.state in
     let n = length v.journal in
     let c = r.number in
@@ -178,6 +213,8 @@ desk_answers first session log scripts roles start v ticks stand place r jobs
     ap (λ (ns : List ℕ). call_after session p ns c) h.next_are ∙ has in
     let now_its : IsTrue (is_own u.now.jobs v.terminal proc call) =
     subst (λ (state : JobState). IsTrue (is_own state v.terminal proc call)) (sym h.jobs_are) its in
+    let now_in_phase : IsStepIn p session v.terminal.phase c (next_of u c) =
+    subst (λ (ns : List ℕ). IsStepIn p session v.terminal.phase c (slice_index_or ns c 0)) (sym h.next_are) in_phase in
     let answer : JobAnswer = (outcome_of u.now.jobs v.terminal proc c call).answer in
     let sent_on : length (signals_of v.terminal) ≤ u.signals = omega (arith, few, h.signals_are) in
     let made : IsDeskAt first session (log ++ record { port = p; at = n; event = own c (next_of u c) answer } ∷ []) v
@@ -185,7 +222,8 @@ desk_answers first session log scripts roles start v ticks stand place r jobs
     signals (outcome_of u.now.jobs v.terminal proc c call).due = record {
       state = then;
       at = record {
-        logged = logs_own p session log v u d c call answer port h.at.logged h.due_are now_has now_its refl;
+        logged = logs_own p session log v u d c call answer port h.at.logged h.due_are now_has now_in_phase rest now_its
+            refl;
         ordered = ordered_own first session log scripts roles start v ticks stand place r u (next_of u c)
             answer each whose is port h.at.logged h.at.ordered sent_on;
         gone_on = λ x begun.
@@ -199,6 +237,7 @@ desk_answers first session log scripts roles start v ticks stand place r jobs
       next_are = refl;
       signals_are = h.signals_are;
       due_are = refl;
+      at_once = come_at_once (outcome_of u.now.jobs v.terminal proc c call).due n;
     } in
     let by_jobs = subst (λ (state : JobState). IsDeskAt first session
     (log ++ record { port = p; at = n; event = own c (next_of u c) (outcome_of state v.terminal proc c call).answer }
@@ -240,32 +279,25 @@ begins_here first session log v w e c jobs next signals due call d port by h of_
         (ap (λ (state : JobState). judged_call state v.terminal (proc_in session first.port c) call) h.jobs_are
         ∙ passes rest) rest of_step
 
--- an entry that begins no call
 pub desk_stays : (first : Scene) (session : JobsSession) (log : JobLog) (v w : PortValue) (part : List PlainEntry)
-    (jobs : JobState) (next : List ℕ) (signals : ℕ) (due : List JobEvent)
+    (jobs : JobState) (next : List ℕ) (signals : ℕ)
     → ComesBy v w part
     → ((c : ℕ) → HadBegun v w c)
-    → IsDeskAt first session log v jobs next signals due
-    → IsDeskAt first session log w jobs next signals due
-desk_stays first session log v w part jobs next signals due by had h = record {
+    → IsDeskAt first session log v jobs next signals []
+    → IsDeskAt first session log w jobs next signals []
+desk_stays first session log v w part jobs next signals by had h = record {
   state = h.state;
-  at = record {
-    logged = log_stays first.port session log v w part h.state by h.at.logged;
-    ordered = ordered_stays first session log v w part by h.at.ordered;
-    gone_on = λ c begun.
-        let was = had c begun in
-        subst (λ (n : ℕ). HasGoneOn first.port session w h.state c n) (sym was.1)
-        (gone_stays first.port session v w part h.state c (caller_at v.terminal c).next by (h.at.gone_on c was.0));
-  };
+  at = stays_at first session log v w part h.state by had h.at;
   jobs_are = h.jobs_are;
   next_are = h.next_are;
   signals_are = h.signals_are;
   due_are = h.due_are;
+  at_once = tt;
 }
 
 -- an entry of a call that is not answered by it
 pub desk_begins : (first : Scene) (session : JobsSession) (log : JobLog) (v w : PortValue) (e : PlainEntry) (c : ℕ)
-    (jobs : JobState) (next : List ℕ) (signals : ℕ) (due : List JobEvent) (call : PlainCall) (d : Journal)
+    (jobs : JobState) (next : List ℕ) (signals : ℕ) (call : PlainCall) (d : Journal)
     → IsPort v
     → ComesBy v w (e ∷ [])
     → ((x : ℕ) → (x ≡ c → ⊥) → HadBegun v w x)
@@ -274,9 +306,9 @@ pub desk_begins : (first : Scene) (session : JobsSession) (log : JobLog) (v w : 
     → call_after session first.port next c ≡ Some (plain call)
     → (has_begun (caller_at v.terminal c) ≡ false
     → judged_call jobs v.terminal (proc_in session first.port c) call ≡ Pass)
-    → IsDeskAt first session log v jobs next signals due
-    → IsDeskAt first session log w jobs next signals due
-desk_begins first session log v w e c jobs next signals due call d port by had same of_step has passes h = record {
+    → IsDeskAt first session log v jobs next signals []
+    → IsDeskAt first session log w jobs next signals []
+desk_begins first session log v w e c jobs next signals call d port by had same of_step has passes h = record {
   state = h.state;
   at = record {
     logged = log_stays first.port session log v w (e ∷ []) h.state by h.at.logged;
@@ -285,7 +317,7 @@ desk_begins first session log v w e c jobs next signals due call d port by had s
       | inl own_one ↦
           subst (λ (y : ℕ). HasGoneOn first.port session w h.state y (caller_at w.terminal y).next) (sym own_one)
           (subst (λ (n : ℕ). HasGoneOn first.port session w h.state c n) (sym same)
-          (begins_here first session log v w e c jobs next signals due call d port by h of_step has passes))
+          (begins_here first session log v w e c jobs next signals [] call d port by h of_step has passes))
       | inr other ↦
           let was = had x other begun in
           subst (λ (n : ℕ). HasGoneOn first.port session w h.state x n) (sym was.1)
@@ -296,6 +328,7 @@ desk_begins first session log v w e c jobs next signals due call d port by had s
   next_are = h.next_are;
   signals_are = h.signals_are;
   due_are = h.due_are;
+  at_once = tt;
 }
 
 -- ---- the port's answer
@@ -343,12 +376,15 @@ after_answer s at (hangs_up h) idle none = record { jobs = refl; next = refl; si
 pub desk_passes : (first : Scene) (session : JobsSession) (log : JobLog) (old v : PortValue) (e : PlainEntry) (c : ℕ)
     (jobs : JobState) (next : List ℕ) (signals : ℕ) (call : PlainCall) (answer : PlainAnswer) (d : Journal)
     → IsPort old
+    → IsPort v
     → ComesBy old v (e ∷ [])
     → ((x : ℕ) → (x ≡ c → ⊥) → HadBegun old v x)
     → has_begun (caller_at v.terminal c) ≡ false
     → is_of_step c (caller_at old.terminal c).next e ≡ true
     → WasAnswered v c (caller_at old.terminal c).next answer
     → call_after session first.port next c ≡ Some (plain call)
+    → IsStepIn first.port session v.terminal.phase c (slice_index_or next c 0)
+    → call_in v.kept c (caller_at old.terminal c).next ≡ Some call
     → (has_begun (caller_at old.terminal c) ≡ false
     → judged_call jobs old.terminal (proc_in session first.port c) call ≡ Pass)
     → IsDeskAt first session log old jobs next signals []
@@ -357,15 +393,22 @@ pub desk_passes : (first : Scene) (session : JobsSession) (log : JobLog) (old v 
     (log ++ record { port = first.port; at = length v.journal; event = passed c (slice_index_or next c 0) answer } ∷ [])
     v (jobs_passed jobs call answer) (slice_set next c (slice_index_or next c 0 + 1)) signals
     (due_passed jobs call answer)
-desk_passes first session log old v e c jobs next signals call answer d port by had rest of_step was has passes h few =
+desk_passes first session log old v e c jobs next signals call answer
+    d was_port port by had rest of_step was has in_phase kept passes h few =
     let u = h.state in
     let p = first.port in
     let n = length v.journal in
     let here : next_call (port_with p session d) u c ≡ Some (plain call) =
     ap (λ (ns : List ℕ). call_after session p ns c) h.next_are ∙ has in
-    let gone = begins_here first session log old v e c jobs next signals [] call d port by h of_step has passes in
+    let gone = begins_here first session log old v e c jobs next signals [] call d was_port by h of_step has passes in
+    let now_in_phase : IsStepIn p session v.terminal.phase c (next_of u c) =
+    subst (λ (ns : List ℕ). IsStepIn p session v.terminal.phase c (slice_index_or ns c 0)) (sym h.next_are) in_phase in
     let logged_now : HasLogged p session log v u = log_stays p session log old v (e ∷ []) u by h.at.logged in
     let ordered_now : HasOrdered first session log v = ordered_stays first session log old v (e ∷ []) by h.at.ordered in
+    let was_at = h.at.logged.at in
+    let count = length-append old.journal (e ∷ []) in
+    let added = ap (λ (es : List PlainEntry). length es) by.added in
+    let behind : u.now.at < n = omega (arith, was_at, count, added) in
     let after : JobsState = after_passed u n (Some (plain call)) answer in
     let then : JobsState = answered_for after c in
     let is = after_answer u n call answer h.due_are in
@@ -383,9 +426,10 @@ desk_passes first session log old v e c jobs next signals call answer d port by 
       at = record {
         logged = subst (λ (o : Option JobCall).
             HasLogged p session (log ++ entry ∷ []) v (answered_for (after_passed u n o answer) c)) here
-            (logs_passed p session log v u d c (caller_at old.terminal c).next answer logged_now h.due_are was gone);
+            (logs_passed p session log v u d c (caller_at old.terminal c).next call answer port logged_now h.due_are here
+            now_in_phase kept behind was gone);
         ordered =
-            ordered_passed first session log old v e u c (next_of u c) answer port by logged_now ordered_now sent_on;
+            ordered_passed first session log old v e u c (next_of u c) answer was_port by logged_now ordered_now sent_on;
         gone_on = λ x begun.
             let other : x ≡ c → ⊥ = λ same.
             false≢true (sym rest ∙ (ap (λ (y : ℕ). has_begun (caller_at v.terminal y)) (sym same) ∙ begun)) in
@@ -402,6 +446,8 @@ desk_passes first session log old v e c jobs next signals call answer d port by 
       next_are = next_then;
       signals_are = is.signals ∙ h.signals_are;
       due_are = is.due;
+      at_once = subst (λ (m : ℕ). ComeAtOnce (due_passed u.now.jobs call answer) m n)
+          (sym (after_passed_now u n (Some (plain call)) answer).0) (come_at_once (due_passed u.now.jobs call answer) n);
     } in
     let by_jobs = subst (λ (state : JobState). IsDeskAt first session (log ++ entry ∷ []) v
     (jobs_passed state call answer) (slice_set u.next c (next_of u c + 1)) signals (due_passed state call answer))

@@ -91,7 +91,7 @@ module _ (f : Frame) (roles : List Role) where
       → IsAtTurn f roles new x now
   flush_at old new d x was now h is plays adds port later sends =
       let on = turn_goes_on f.first f.session f.scripts roles f.start d.log old new (value_at d) f.ticks was now
-      turn.Flush h.playing is (λ c. refl) plays adds in
+      turn.Flush h.playing refl is (λ c. refl) plays adds in
       let by = comes_at old new d was now turn.Flush h is plays adds in
       let goes : Goes new now (new_sent_on new d) =
       all_sent (Goes new now) new d
@@ -204,7 +204,7 @@ module _ (f : Frame) (roles : List Role) where
         at = record {
           number = h.number;
           playing = turn_goes_on f.first f.session f.scripts roles f.start d.log old new (value_at d) f.ticks was now
-              turn.Pass h.playing is (λ c. refl) plays adds;
+              turn.Pass h.playing refl is (λ c. refl) plays adds;
           all_sent = subst (λ (ss : List Signal). length ss ≤ d.sent)
               (sym (signals_stay old new adds.entry port later by none)) h.all_sent;
         };

@@ -16,7 +16,7 @@ use Rattle.job_steps.specs.Steps.{next_call, judged_call, GoesOn, is_of_step, af
 use Rattle.passed_laws.specs.Later.{IsLater, ComesBy}
 use Rattle.job_one.specs.Later.{port_with, HasLogged, HasGoneOn}
 use Rattle.passed_laws.proofs.Laters.{later_before, terminal_now}
-use Rattle.job_one.proofs.Logging.{now_before, event_behind}
+use Rattle.job_steps.proofs.Moments.{now_before, event_behind}
 use Rattle.job_one.proofs.Begun.{first_next}
 
 -- the check let it go on, as nothing was logged since

@@ -51,7 +51,7 @@ use Rattle.job_one.specs.AfterLine.{IsFrameWithin}
 use Rattle.job_one.specs.Taken.{Advances, IsNextOf, TakesCall, TakesNoCall}
 use Rattle.passed_laws.proofs.Attempted.{attempts_as, call_is, makes_as}
 use Rattle.job_one.proofs.Following.{latest_is}
-use Rattle.job_one.proofs.HandleNumbers.{are_numbers}
+use Rattle.live_handles.proofs.HandleNumbers.{are_numbers}
 use Rattle.passed_laws.proofs.Steps.{step_own}
 use Rattle.job_one.proofs.Mine.{logged_more}
 use Rattle.job_one.proofs.NextCalls.{phase_is, own_call_of, rests_own}

@@ -395,7 +395,7 @@ module _ (f : Frame) (roles : List Role) where
     goes_on port later = record {
       number = h.at.number;
       playing = last_goes_on f.first f.session f.scripts roles f.start d.log old new (value_at d) f.ticks was now place
-          r h.at.playing is at (rests_here old d was left place r h at none) ends plays;
+          r h.at.playing refl is at (rests_here old d was left place r h at none) ends plays;
       all_sent = subst (λ (ss : List Signal). length ss ≤ d.sent)
           (sym (signals_stay old new (end_entry old ends.role.number) port later
           (record {

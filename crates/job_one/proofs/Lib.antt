@@ -14,10 +14,12 @@ pub mod Along
 pub mod Phasing
 pub mod FlushTurns
 pub mod CallTurns
-pub mod HandleNumbers
 pub mod OwnTurns
 pub mod NextCalls
 pub mod HangUps
 pub mod LeftCalls
 pub mod Telling
 pub mod Owned
+pub mod Begins
+pub mod Rising
+pub mod Keeping

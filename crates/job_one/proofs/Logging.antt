@@ -1,42 +1,34 @@
 -- One event more in the log of a port whose journal still grows.
-use Rattle.std.proofs.Common.{◌≡◌, ◌≤◌, ◌<◌, ℕ, zero, suc, ◌+◌, ◌-◌, Bool, true, false, List, [], ◌∷◌}
-use Rattle.std.proofs.Common.{◌++◌, IsTrue, Option, None, Some, length, if◌then◌else◌, map, filter}
-use Rattle.std.proofs.Common.{take, cond, refl, sym, ap, ◌∙◌, subst, arith, length-append, append_assoc}
-use Rattle.std.specs.Prelude.{slice_get, sum, nat_le, option_map, ◌==◌}
-use Rattle.std.proofs.lemmas.Bool.{eq-eqb}
-use Rattle.std.proofs.lemmas.Bool.Decides.{nat_tests}
-use Rattle.std.proofs.lemmas.List.Elements.{filter-append}
+use Rattle.std.proofs.Common.{◌≡◌, ◌≤◌, ◌<◌, ℕ, zero, suc, ◌+◌, ◌-◌, Bool, false, List, [], ◌∷◌}
+use Rattle.std.proofs.Common.{◌++◌, IsTrue, Option, Some, length, if◌then◌else◌, map}
+use Rattle.std.proofs.Common.{refl, sym, ap, ◌∙◌, subst, arith, length-append, append_assoc}
+use Rattle.std.specs.Prelude.{slice_get, nat_le, option_map}
 use Rattle.std.proofs.lemmas.List.{length-map}
 use Rattle.journal_check.proofs.NameLemmas.{get_past}
 use Rattle.tty_base.specs.declared.counters.Signal.{Signal}
-use Rattle.tty_calls.specs.Plain.{PlainCall, opens, closes, reads, writes, gets_modes, sets_modes, gets_disc}
-use Rattle.tty_calls.specs.Plain.{sets_disc, flushes, steers, counts_input, counts_output, excludes, admits}
-use Rattle.tty_calls.specs.Plain.{drains, gets_counts, hangs_up, sends_packet, takes_packet, PlainAnswer, done}
-use Rattle.tty_calls.specs.Plain.{count_is, got, number_is, modes_are, counts_are, refused, idle, PlainEntry}
-use Rattle.tty_terminal.specs.Terminals.{Terminal, opening}
-use Rattle.tty_terminal.specs.Steps.{after}
-use Rattle.tty_terminal.specs.Runs.{Grows, Leads as Run}
-use Rattle.tty_terminal.proofs.Grown.{after_grown}
+use Rattle.tty_calls.specs.Plain.{PlainCall}
+use Rattle.tty_calls.specs.Plain.{hangs_up, PlainAnswer, done}
+use Rattle.tty_calls.specs.Plain.{PlainEntry}
+use Rattle.tty_terminal.specs.Terminals.{Terminal, caller_at, has_begun}
 use Rattle.port_core.specs.Ports.{PortValue, IsPort, call_in}
-use Rattle.job_control.specs.Control.{JobState, first_jobs}
 use Rattle.job_control.specs.declared.answers.JobAnswer.{JobAnswer}
 use Rattle.job_control.specs.declared.answers.Target.{Target}
 use Rattle.job_control.specs.declared.processes.JobSignal.{JobSignal}
 use Rattle.passed_calls.specs.declared.logs.Logged.{Logged}
-use Rattle.passed_calls.specs.Journals.{Journal, terminal_after, terminal_at}
-use Rattle.passed_calls.specs.Scripts.{plain, further}
+use Rattle.passed_calls.specs.Journals.{Journal}
+use Rattle.passed_calls.specs.Scripts.{plain}
 use Rattle.passed_calls.specs.Logs.{logged_on}
 use Rattle.job_text.specs.Events.{JobEvent, own, passed, passed_down, sent, JobLog}
 use Rattle.job_text.specs.Sessions.{JobCall, JobsSession}
-use Rattle.job_steps.specs.Steps.{Port, Moment, JobsState, procs_of, first_state, jobs_among, jobs_before}
+use Rattle.job_steps.specs.Derived.{IsStepIn}
+use Rattle.job_steps.specs.Steps.{Port, JobsState, first_state}
 use Rattle.job_steps.specs.Steps.{proc_of, next_of, next_call, with_jobs, answered_for, after_own, after_passed}
-use Rattle.job_steps.specs.Steps.{after_event, rest_of, outcome_of, is_own, OwnAnswer, GoesOn, first_place}
+use Rattle.job_steps.specs.Steps.{after_event, rest_of, outcome_of, is_own, OwnAnswer, IsOfCall, GoesOn, first_place}
 use Rattle.job_steps.specs.Steps.{job_signal, raised_at, foreground_target, IsSent, IsAllowed, Leads}
 use Rattle.passed_laws.specs.Later.{IsLater, ComesBy, WasAnswered}
-use Rattle.passed_laws.proofs.Laters.{later_before, terminal_now, long_enough, on_more, front}
+use Rattle.passed_laws.proofs.Laters.{later_before, terminal_now, long_enough, on_more}
+use Rattle.job_steps.proofs.Moments.{later_not, passed_at}
 use Rattle.job_one.specs.Later.{port_with, HasLogged, HasGoneOn}
-
--- ---- journals to which a port can come
 
 -- ---- the log grows
 
@@ -96,97 +88,6 @@ get_map : (xs : List Signal) (i : ℕ) (x : Signal)
 get_map [] i x h = absurd (cc)
 get_map (y ∷ xs) zero x h = ap (λ (o : Option Signal). option_map job_signal o) h
 get_map (y ∷ xs) (suc i) x h = get_map xs i x h
-
--- ---- job control before an entry
-
-later_not : (a b : ℕ) → b < a → nat_le a b ≡ false
-later_not a b lt = grind (arith, nat_tests)
-
-is_le : (a b : ℕ) → a ≤ b → nat_le a b ≡ true
-is_le a b le = grind (arith, nat_tests)
-
-at_or_before : (m : Moment) (ms : List Moment) (place : ℕ) (first : JobState)
-    → place < m.at
-    → jobs_among (m ∷ ms) place first ≡ jobs_among ms place first
-at_or_before m ms place first lt =
-    ap (λ (b : Bool). if b then m.jobs else jobs_among ms place first) (later_not m.at place lt)
-
-among_now : (m : Moment) (ms : List Moment) (place : ℕ) (first : JobState)
-    → m.at ≤ place
-    → jobs_among (m ∷ ms) place first ≡ m.jobs
-among_now m ms place first le = ap (λ (b : Bool). if b then m.jobs else jobs_among ms place first) (is_le m.at place le)
-
-pub now_before : (port : Port) (s : JobsState) (place : ℕ) → s.now.at ≤ place → jobs_before port s place ≡ s.now.jobs
-now_before port s place le = among_now s.now s.past place _ le
-
--- an event behind an entry says nothing of before
-behind : (port : Port) (s : JobsState) (at place : ℕ) (jobs : JobState)
-    → place < at
-    → jobs_before port (with_jobs s at jobs) place ≡ jobs_before port s place
-behind port s at place jobs lt = at_or_before (record { at = at; jobs = jobs }) (s.now ∷ s.past) place _ lt
-
-own_behind : (port : Port) (t : Terminal) (p c : ℕ) (s : JobsState) (at place : ℕ) (call : Option JobCall)
-    → place < at
-    → jobs_before port (after_own t p c s at call) place ≡ jobs_before port s place
-own_behind port t p c s at place None lt = refl
-own_behind port t p c s at place (Some call) lt = behind port s at place _ lt
-
--- after an answer of the port job control stands from this place on
-after_passed_now : (s : JobsState) (at : ℕ) (call : Option JobCall) (answer : PlainAnswer)
-    → ((after_passed s at call answer).now.at ≡ at)
-    × ((after_passed s at call answer).now ∷ (after_passed s at call answer).past
-    ≡ (after_passed s at call answer).now ∷ s.now ∷ s.past)
-after_passed_now s at None answer = (refl, refl)
-after_passed_now s at (Some (further call)) answer = (refl, refl)
-after_passed_now s at (Some (plain (opens h access nonblock))) answer = (refl, refl)
-after_passed_now s at (Some (plain (closes h))) answer = (refl, refl)
-after_passed_now s at (Some (plain (reads h n))) answer = (refl, refl)
-after_passed_now s at (Some (plain (writes h bytes))) answer = (refl, refl)
-after_passed_now s at (Some (plain (gets_modes h))) answer = (refl, refl)
-after_passed_now s at (Some (plain (sets_modes h when words))) answer = (refl, refl)
-after_passed_now s at (Some (plain (gets_disc h))) answer = (refl, refl)
-after_passed_now s at (Some (plain (sets_disc h number))) answer = (refl, refl)
-after_passed_now s at (Some (plain (flushes h queue))) answer = (refl, refl)
-after_passed_now s at (Some (plain (steers h act))) answer = (refl, refl)
-after_passed_now s at (Some (plain (counts_input h))) answer = (refl, refl)
-after_passed_now s at (Some (plain (counts_output h))) answer = (refl, refl)
-after_passed_now s at (Some (plain (excludes h))) answer = (refl, refl)
-after_passed_now s at (Some (plain (admits h))) answer = (refl, refl)
-after_passed_now s at (Some (plain (drains h))) answer = (refl, refl)
-after_passed_now s at (Some (plain (gets_counts h))) answer = (refl, refl)
-after_passed_now s at (Some (plain (sends_packet h bytes))) answer = (refl, refl)
-after_passed_now s at (Some (plain (takes_packet h))) answer = (refl, refl)
-after_passed_now s at (Some (plain (hangs_up h))) done = (refl, refl)
-after_passed_now s at (Some (plain (hangs_up h))) (count_is taken) = (refl, refl)
-after_passed_now s at (Some (plain (hangs_up h))) (got bytes) = (refl, refl)
-after_passed_now s at (Some (plain (hangs_up h))) (number_is n) = (refl, refl)
-after_passed_now s at (Some (plain (hangs_up h))) (modes_are modes) = (refl, refl)
-after_passed_now s at (Some (plain (hangs_up h))) (counts_are counts) = (refl, refl)
-after_passed_now s at (Some (plain (hangs_up h))) (refused errno) = (refl, refl)
-after_passed_now s at (Some (plain (hangs_up h))) idle = (refl, refl)
-
-passed_at : (s : JobsState) (at : ℕ) (call : Option JobCall) (answer : PlainAnswer)
-    → (after_passed s at call answer).now.at ≤ at
-passed_at s at call answer = omega (arith, (after_passed_now s at call answer).0)
-
-passed_behind : (port : Port) (s : JobsState) (at place : ℕ) (call : Option JobCall) (answer : PlainAnswer)
-    → place < at
-    → jobs_before port (after_passed s at call answer) place ≡ jobs_before port s place
-passed_behind port s at place call answer lt =
-    let n = after_passed_now s at call answer in
-    let first : JobState = first_jobs (procs_of port) in
-    ap (λ (ms : List Moment). jobs_among ms place first) n.1
-    ∙ at_or_before (after_passed s at call answer).now (s.now ∷ s.past) place first
-    (subst (λ (i : ℕ). place < i) (sym n.0) lt)
-
-pub event_behind : (port : Port) (s : JobsState) (at place : ℕ) (event : JobEvent)
-    → place < at
-    → jobs_before port (after_event port s at event) place ≡ jobs_before port s place
-event_behind port s at place (own c step answer) lt =
-    own_behind port (terminal_at port.journal at) (proc_of port c) c s at place (next_call port s c) lt
-event_behind port s at place (passed c step answer) lt = passed_behind port s at place (next_call port s c) answer lt
-event_behind port s at place (passed_down c h) lt = behind port s at place s.now.jobs lt
-event_behind port s at place (sent signal target) lt = behind port s at place s.now.jobs lt
 
 -- ---- each kind of event
 
@@ -249,17 +150,22 @@ pub logs_own : (p : ℕ) (session : JobsSession) (log : JobLog) (v : PortValue) 
     → HasLogged p session log v u
     → u.due ≡ []
     → next_call (port_with p session d) u c ≡ Some call
+    → IsStepIn p session v.terminal.phase c (next_of u c)
+    → has_begun (caller_at v.terminal c) ≡ false
     → IsTrue (is_own u.now.jobs v.terminal (proc_of (port_with p session d) c) call)
     → answer ≡ (outcome_of u.now.jobs v.terminal (proc_of (port_with p session d) c) c call).answer
     → HasLogged p session (log ++ record { port = p; at = length v.journal; event = own c (next_of u c) answer } ∷ []) v
     (answered_for (after_own v.terminal (proc_of (port_with p session d) c) c u (length v.journal) (Some call)) c)
-logs_own p session log v u d c call answer port h none is its said =
+logs_own p session log v u d c call answer port h none is in_phase rest its said =
     let n = length v.journal in
     logs p session log v u (answered_for (after_own v.terminal (proc_of (port_with p session d) c) c u n (Some call)) c)
     (own c (next_of u c) answer) h
     (λ j later. record {
       nothing_due = none;
       next = refl;
+      in_phase =
+          subst (λ (t : Terminal). IsStepIn p session t.phase c (next_of u c)) (sym (terminal_now v j port later)) in_phase;
+      between = ap (λ (t : Terminal). has_begun (caller_at t c)) (terminal_now v j port later) ∙ rest;
       answers = subst (λ (t : Terminal).
           OwnAnswer u.now.jobs t (proc_of (port_with p session d) c) c (next_call (port_with p session d) u c) answer)
           (sym (terminal_now v j port later))
@@ -272,15 +178,20 @@ logs_own p session log v u d c call answer port h none is its said =
 
 -- the answer of the port to a call that went on
 pub logs_passed : (p : ℕ) (session : JobsSession) (log : JobLog) (v : PortValue) (u : JobsState) (d : Journal)
-    (c step : ℕ) (answer : PlainAnswer)
+    (c step : ℕ) (call : PlainCall) (answer : PlainAnswer)
+    → IsPort v
     → HasLogged p session log v u
     → u.due ≡ []
+    → next_call (port_with p session d) u c ≡ Some (plain call)
+    → IsStepIn p session v.terminal.phase c (next_of u c)
+    → call_in v.kept c step ≡ Some call
+    → u.now.at < length v.journal
     → WasAnswered v c step answer
     → HasGoneOn p session v u c step
     → HasLogged p session
     (log ++ record { port = p; at = length v.journal; event = passed c (next_of u c) answer } ∷ []) v
     (answered_for (after_passed u (length v.journal) (next_call (port_with p session d) u c) answer) c)
-logs_passed p session log v u d c step answer h none was gone =
+logs_passed p session log v u d c step call answer port h none is in_phase kept before was gone =
     let n = length v.journal in
     let count : n ≡ length was.before + 1 =
     ap (λ (es : List PlainEntry). length es) was.last ∙ length-append was.before (was.entry ∷ []) in
@@ -289,6 +200,8 @@ logs_passed p session log v u d c step answer h none was gone =
     (λ j later. record {
       nothing_due = none;
       next = refl;
+      in_phase =
+          subst (λ (t : Terminal). IsStepIn p session t.phase c (next_of u c)) (sym (terminal_now v j port later)) in_phase;
       entry = record {
         entry = was.entry;
         some = omega (arith, count);
@@ -298,6 +211,9 @@ logs_passed p session log v u d c step answer h none was gone =
             ∙ get_past was.before (was.entry ∷ later.rest) (n - 1) 0 (omega (arith, count));
         is_answer = was.is_answer;
       };
+      at_once = before;
+      of_call = subst (λ (o : Option JobCall). IsOfCall (port_with p session j) c was.entry.step o) (sym is)
+          (ap (λ (n : ℕ). j.calls c n) was.of_step ∙ later.calls c step call kept);
       goes_on = subst
           (λ (n : ℕ). GoesOn (port_with p session j) u (first_place j c n) c (next_call (port_with p session j) u c))
           (sym was.of_step)
@@ -312,13 +228,14 @@ pub logs_due : (p : ℕ) (session : JobsSession) (log : JobLog) (v : PortValue) 
     (target : Target) (rest : List JobEvent)
     → HasLogged p session log v u
     → u.due ≡ sent signal target ∷ rest
+    → length v.journal ≡ u.now.at
     → HasLogged p session (log ++ record { port = p; at = length v.journal; event = sent signal target } ∷ []) v
     (record (with_jobs u (length v.journal) u.now.jobs) { signals = u.signals; due = rest })
-logs_due p session log v u signal target rest h is =
+logs_due p session log v u signal target rest h is now =
     let n = length v.journal in
     logs p session log v u (record (with_jobs u n u.now.jobs) { signals = u.signals; due = rest }) (sent signal target)
     h
-    (λ j later. subst (λ (es : List JobEvent). IsSent (port_with p session j) u n signal target es) (sym is) refl)
+    (λ j later. subst (λ (es : List JobEvent). IsSent (port_with p session j) u n signal target es) (sym is) (refl, now))
     (due_comes p session v u signal target rest is)
     (omega arith)
 
@@ -327,10 +244,12 @@ pub logs_down : (p : ℕ) (session : JobsSession) (log : JobLog) (v : PortValue)
     (rest : List JobEvent)
     → HasLogged p session log v u
     → u.due ≡ passed_down c handle ∷ rest
+    → length v.journal ≡ u.now.at + 1
+    → call_in v.kept c step ≡ Some (hangs_up handle)
     → WasAnswered v c step done
     → HasLogged p session (log ++ record { port = p; at = length v.journal; event = passed_down c handle } ∷ []) v
     (record (with_jobs u (length v.journal) u.now.jobs) { due = rest })
-logs_down p session log v u c step handle rest h is was =
+logs_down p session log v u c step handle rest h is now kept was =
     let n = length v.journal in
     let count : n ≡ length was.before + 1 =
     ap (λ (es : List PlainEntry). length es) was.last ∙ length-append was.before (was.entry ∷ []) in
@@ -347,6 +266,8 @@ logs_down p session log v u c step handle rest h is was =
             ∙ get_past was.before (was.entry ∷ later.rest) (n - 1) 0 (omega (arith, count));
         is_answer = was.is_answer;
       };
+      at_once = now;
+      of_call = ap (λ (n : ℕ). j.calls c n) was.of_step ∙ later.calls c step (hangs_up handle) kept;
     })
     (down_comes p session v u c handle rest is)
     (omega arith)

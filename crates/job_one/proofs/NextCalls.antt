@@ -224,6 +224,8 @@ module _ (f : Frame) (roles : List Role) where
         known = h.known;
         few = h.few;
         has = h.has;
+        from = h.from;
+        to = h.to;
         goes_on = λ rest. subst (λ (q : ℕ). judged_call d.jobs v.terminal q call ≡ Pass) h.proc (goes rest);
         calling = elim (test_cases (begun_at v c)) [
           | inl begun ↦ call_continues f.first f.session f.scripts roles f.start d.log v (value_at d) f.ticks
@@ -251,6 +253,8 @@ module _ (f : Frame) (roles : List Role) where
     caller = h.caller;
     proc = h.proc;
     has = h.has;
+    from = h.from;
+    to = h.to;
     its = subst (λ (q : ℕ). IsTrue (is_own d.jobs v.terminal q call)) h.proc its;
   }
 

@@ -21,6 +21,7 @@ use Rattle.job_text.specs.declared.calls.OwnCall.{OwnCall}
 use Rattle.job_text.specs.declared.calls.OwnCall.TheVariants as call
 use Rattle.job_text.specs.Events.{JobEvent, own, passed, passed_down, sent, JobLog}
 use Rattle.job_text.specs.Sessions.{JobCall}
+use Rattle.job_steps.specs.Derived.{IsStepIn}
 use Rattle.job_steps.specs.Steps.{Outcome, judged_call, judged_answer, sent_by_stop, spgrp_judged, through, outcome_of}
 use Rattle.job_one.specs.Desk.{proc_in}
 use Rattle.job_one.specs.Events.{DeskState, noted, all_noted, AreSent, answered_own, stopped}
@@ -28,6 +29,8 @@ use Rattle.job_one.specs.Between.{value_at}
 use Rattle.job_one.specs.Playing.{DeskValue, IsPlayingJobs}
 use Rattle.job_one.specs.Frames.{Frame, IsOwing, IsAtTurn, IsNextTurn, IsOwnCall}
 use Rattle.job_one.specs.Taken.{Advances, TakesCall}
+use Rattle.job_one.proofs.Begins.{step_in_phase}
+use Rattle.job_one.proofs.NextCalls.{phase_is}
 use Rattle.job_one.proofs.Turning.{due_goes_on, own_goes_on}
 
 -- any journal names the session's calls
@@ -135,8 +138,12 @@ module _ (f : Frame) (roles : List Role) where
       let n = length v.journal in
       let out = outcome_of d.jobs v.terminal (proc_in f.session f.first.port c) c job_call in
       let y : DeskState = record (answered_own d n c out.answer) { jobs = out.left } in
+      let in_phase : IsStepIn f.first.port f.session v.terminal.phase c (slice_index_or d.next c 0) =
+      subst (λ (k : ℕ). IsStepIn f.first.port f.session k c (slice_index_or d.next c 0))
+      (sym (phase_is f roles v d stand [] at))
+      (step_in_phase f.first.port f.session f.start.terminal.phase c (slice_index_or d.next c 0) h.from h.to) in
       let on = own_goes_on f.first f.session f.scripts roles f.start d.log v (value_at d) f.ticks stand place h.role
-      job_call nothing at.playing is h.at_place port refl at.all_sent h.rests h.known h.has h.its in
+      job_call nothing at.playing is h.at_place port refl at.all_sent h.rests h.known h.has in_phase h.its in
       let on_desk : Plays v stand y.log (due_at y out.due) =
       subst (λ (p : ℕ). Plays v stand
       (d.log ++ record { port = p; at = n; event = own c (slice_index_or d.next c 0) out.answer } ∷ [])

@@ -9,7 +9,7 @@ use Rattle.tty_base.specs.declared.counters.Signal.{Signal}
 use Rattle.tty_calls.specs.declared.sessions.Script.{Script}
 use Rattle.tty_calls.specs.declared.journals.Who.{Who}
 use Rattle.tty_calls.specs.Limits.{IsCallWithin}
-use Rattle.tty_calls.specs.Plain.{PlainCall, hangs_up, PlainAnswer, done, answered, PlainEntry, is_caller}
+use Rattle.tty_calls.specs.Plain.{PlainCall, hangs_up, PlainAnswer, done, PlainEntry, is_caller}
 use Rattle.tty_terminal.specs.Terminals.{caller_at}
 use Rattle.tty_terminal.specs.Runs.{Grows, is_of_call}
 use Rattle.passed_calls.specs.Derived.{Passing, BlockPhase, AreInSteps, by_caller, all_calls, calls_at}
@@ -31,7 +31,7 @@ use Rattle.job_control.specs.declared.processes.JobSignal.{JobSignal}
 use Rattle.job_control.specs.declared.processes.Judged.TheVariants.{Pass}
 use Rattle.job_text.specs.Events.{JobEvent, own, passed, passed_down, sent, JobLog}
 use Rattle.job_text.specs.Sessions.{JobCall, JobsSession}
-use Rattle.job_steps.specs.Derived.{block_phases, job_call_at, plain_call, passings_on}
+use Rattle.job_steps.specs.Derived.{block_phases, IsStepIn, job_call_at, plain_call, passings_on}
 use Rattle.job_steps.specs.Steps.{outcome_of, is_own, judged_call, job_signal, foreground_target}
 use Rattle.passed_laws.specs.Passed.{begin_of, IsOfBlocks, AreUpTo, PassesMore}
 use Rattle.passed_calls.specs.Within.{AreBlocksWithin}
@@ -104,14 +104,27 @@ module _ (first : Scene) (session : JobsSession) (scripts : Scene → List Scrip
 
   -- ---- a flush, a tick, or the end of the clock
 
+  -- where nothing is due the desk stays
+  idle_stays : (log : JobLog) (old new : PortValue) (d : DeskValue) (part : List PlainEntry)
+      → d.due ≡ []
+      → ComesBy old new part
+      → ((c : ℕ) → HadBegun old new c)
+      → IsDeskAt first session log old d.jobs d.next d.signals d.due
+      → IsDeskAt first session log new d.jobs d.next d.signals d.due
+  idle_stays log old new d part idle by had h =
+      subst (λ (es : List JobEvent). IsDeskAt first session log new d.jobs d.next d.signals es) (sym idle)
+      (desk_stays first session log old new part d.jobs d.next d.signals by had
+      (subst (λ (es : List JobEvent). IsDeskAt first session log old d.jobs d.next d.signals es) idle h))
+
   pub turn_goes_on : (log : JobLog) (old new : PortValue) (d : DeskValue) (ticks : ℕ) (was now : Stand) (next : Turn)
       → IsPlayingJobs first session scripts roles start log old d ticks was
+      → d.due ≡ []
       → IsTurn (is_of_consoles first.session) old (role_numbers roles) was.going next
       → ((c : ℕ) → is_caller (who_of (role_numbers roles) next) c ≡ false)
       → PlaysTurn roles old new was now next
       → AddsEntry old new
       → IsPlayingJobs first session scripts roles start log new d ticks now
-  turn_goes_on log old new d ticks was now next h is none plays adds =
+  turn_goes_on log old new d ticks was now next h idle is none plays adds =
       let mine = passings_with session log p d (begun_at old) in
       let s = scene_on p h.playing.has.session in
       let at = in_turn first phases scripts roles start mine old ticks was next h.playing is in
@@ -127,7 +140,7 @@ module _ (first : Scene) (session : JobsSession) (scripts : Scene → List Scrip
             (λ c. ap (λ (b : Bool). by_caller c (passings_on session log p) ++ tail b (next_passing session p d c))
             (sym (begun_same s old new on.adds c (other c))))
             (turn_on first phases scripts roles start mine old new ticks was now next h.playing is none plays adds);
-        desk = desk_stays first session log old new (on.adds.entry ∷ []) d.jobs d.next d.signals d.due by
+        desk = idle_stays log old new d (on.adds.entry ∷ []) idle by
             (λ c. begun_elsewhere s old new on.adds c (other c)) h.desk;
         logged_before = h.logged_before;
       }
@@ -208,6 +221,7 @@ module _ (first : Scene) (session : JobsSession) (scripts : Scene → List Scrip
       → begun_at v r.number ≡ false
       → r.number < length d.next
       → call_after session p d.next r.number ≡ Some call
+      → IsStepIn p session v.terminal.phase r.number (step_at d r.number)
       → IsTrue (is_own d.jobs v.terminal (proc_in session p r.number) call)
       → IsPlayingJobs first session scripts roles start
       (log
@@ -223,7 +237,7 @@ module _ (first : Scene) (session : JobsSession) (scripts : Scene → List Scrip
         signals = d.signals;
         due = (outcome_of d.jobs v.terminal (proc_in session p r.number) r.number call).due;
       }) ticks stand
-  own_goes_on log v d ticks stand place r call j h is at port none few rest known has its =
+  own_goes_on log v d ticks stand place r call j h is at port none few rest known has in_phase its =
       let c = r.number in
       let out = outcome_of d.jobs v.terminal (proc_in session p c) c call in
       let event : JobEvent = own c (step_at d c) out.answer in
@@ -246,7 +260,7 @@ module _ (first : Scene) (session : JobsSession) (scripts : Scene → List Scrip
         desk = desk_answers first session log scripts roles start v ticks stand place
             r d.jobs d.next d.signals call j h.playing.each is at port
             (subst (λ (es : List JobEvent). IsDeskAt first session log v d.jobs d.next d.signals es) none h.desk)
-            few rest has its;
+            few rest has in_phase its;
         logged_before = λ x. before_more (by_caller x (passings_on session more p)) (step_at d x) (step_at late x)
             (step_rises d.next c x known)
             (subst (λ (ms : List Passing). All (λ m. m.step < step_at d x) (by_caller x ms)) (sym same)
@@ -384,6 +398,7 @@ module _ (first : Scene) (session : JobsSession) (scripts : Scene → List Scrip
   pub call_waits : (log : JobLog) (old new : PortValue) (d : DeskValue) (ticks : ℕ) (was now : Stand) (place : ℕ)
       (r : Role) (call : PlainCall) (tried : PlainTried) (j : Journal)
       → IsPlayingJobs first session scripts roles start log old d ticks was
+      → d.due ≡ []
       → IsCalling first phases scripts roles start (with_call log d old r.number) old ticks was place call
       → IsTurn (is_of_consoles first.session) old (role_numbers roles) was.going (turn.Call place)
       → slice_get roles place ≡ Some r
@@ -394,7 +409,7 @@ module _ (first : Scene) (session : JobsSession) (scripts : Scene → List Scrip
       → TriesCall roles old new place call tried
       → PlaysCall roles old new was now place call
       → IsPlayingJobs first session scripts roles start log new d ticks now
-  call_waits log old new d ticks was now place r call tried j h calling is at port has passes waits tries plays =
+  call_waits log old new d ticks was now place r call tried j h idle calling is at port has passes waits tries plays =
       let c = r.number in
       let more = with_call log d old c in
       let s = scene_on p calling.has.session in
@@ -424,9 +439,11 @@ module _ (first : Scene) (session : JobsSession) (scripts : Scene → List Scrip
         playing = plays_as more (passings_with session log p d (begun_at new)) new ticks now same
             (call_on first phases scripts roles start more old
             new ticks was now place call tried calling is tries plays);
-        desk = desk_begins first session log old new on.adds.entry c d.jobs d.next d.signals d.due call j port by
+        desk = subst (λ (es : List JobEvent). IsDeskAt first session log new d.jobs d.next d.signals es) (sym idle)
+            (desk_begins first session log old new on.adds.entry c d.jobs d.next d.signals call j port by
             (λ x other. begun_elsewhere s old new on.adds x (other_is old new c call makes s on.adds x other)) begun.1
-            (of_step_is old new c call makes s on.adds) has passes h.desk;
+            (of_step_is old new c call makes s on.adds) has passes
+            (subst (λ (es : List JobEvent). IsDeskAt first session log old d.jobs d.next d.signals es) idle h.desk));
         logged_before = h.logged_before;
       }
 
@@ -438,10 +455,12 @@ module _ (first : Scene) (session : JobsSession) (scripts : Scene → List Scrip
       → IsTurn (is_of_consoles first.session) old (role_numbers roles) was.going (turn.Call place)
       → slice_get roles place ≡ Some r
       → IsPort old
+      → IsPort new
       → d.due ≡ []
       → length (signals_of old.terminal) ≤ d.signals
       → r.number < length d.next
       → call_after session p d.next r.number ≡ Some (plain call)
+      → IsStepIn p session start.terminal.phase r.number (step_at d r.number)
       → (begun_at old r.number ≡ false → judged_call d.jobs old.terminal (proc_in session p r.number) call ≡ Pass)
       → TriesCall roles old new place call (done_by answer)
       → PlaysCall roles old new was now place call
@@ -455,7 +474,7 @@ module _ (first : Scene) (session : JobsSession) (scripts : Scene → List Scrip
         due = due_passed d.jobs call answer;
       }) ticks now
   call_answered log old new d ticks was now place r call answer
-      j h calling is at port none few known has passes tries plays =
+      j h calling is at port now_port none few known has in_phase passes tries plays =
       let c = r.number in
       let tried = done_by answer in
       let more = with_call log d old c in
@@ -501,18 +520,23 @@ module _ (first : Scene) (session : JobsSession) (scripts : Scene → List Scrip
       (ap (λ (t : List Passing). by_caller c (passings_on session later p) ++ t)
       (tail_none (begun_at new c) (next_passing session p late c) rest)
       ∙ (append-nil (by_caller c (passings_on session later p)) ∙ own_then)) in
+      let on_new = call_on first phases scripts roles start more old new
+      ticks was now place call tried calling is tries plays in
+      let phase : new.terminal.phase ≡ start.terminal.phase = (on_new.each.each (scene_on p on_new.has.session)
+      on_new.has.like on_new.has.agrees).phase in
+      let here_in_phase : IsStepIn p session new.terminal.phase c (step_at d c) =
+      subst (λ (k : ℕ). IsStepIn p session k c (step_at d c)) (sym phase) in_phase in
       record {
         playing = plays_as more (passings_with session later p late (begun_at new)) new ticks now
             (λ x. elim (cases_eq x c) [
               | inl own_one ↦
                   subst (λ (y : ℕ). more y ≡ passings_with session later p late (begun_at new) y) (sym own_one) here
               | inr other ↦ elsewhere x other
-            ]) (call_on first phases scripts roles start more old
-            new ticks was now place call tried calling is tries plays);
-        desk = desk_passes first session log old new on.adds.entry c d.jobs d.next d.signals call answer j port by
+            ]) on_new;
+        desk = desk_passes first session log old new on.adds.entry c d.jobs d.next d.signals call answer j port now_port by
             (λ x other. begun_elsewhere s old new on.adds x (other_is old new c call makes s on.adds x other)) rest
             (of_step_is old new c call makes s on.adds)
-            (was_answered old new c call makes s on.adds answer attempts) has passes
+            (was_answered old new c call makes s on.adds answer attempts) has here_in_phase makes.kept passes
             (subst (λ (es : List JobEvent). IsDeskAt first session log old d.jobs d.next d.signals es) none h.desk) few;
         logged_before = λ x. elim (cases_eq x c) [
           | inl own_one ↦ subst (λ (y : ℕ). AreLoggedBefore session later p y (step_at late y)) (sym own_one)
@@ -535,13 +559,14 @@ module _ (first : Scene) (session : JobsSession) (scripts : Scene → List Scrip
   pub last_goes_on : (log : JobLog) (old new : PortValue) (d : DeskValue) (ticks : ℕ) (was now : Stand) (place : ℕ)
       (r : Role)
       → IsPlayingJobs first session scripts roles start log old d ticks was
+      → d.due ≡ []
       → IsTurn (is_of_consoles first.session) old (role_numbers roles) was.going (turn.Call place)
       → slice_get roles place ≡ Some r
       → begun_at old r.number ≡ false
       → EndsCalls roles old new place
       → PlaysLast roles old new was now place
       → IsPlayingJobs first session scripts roles start log new d ticks now
-  last_goes_on log old new d ticks was now place r h is at rest ends plays =
+  last_goes_on log old new d ticks was now place r h idle is at rest ends plays =
       let mine = passings_with session log p d (begun_at old) in
       let s = scene_on p h.playing.has.session in
       let in_it = in_last first phases scripts roles start mine old ticks was place r h.playing is at rest in
@@ -561,7 +586,7 @@ module _ (first : Scene) (session : JobsSession) (scripts : Scene → List Scrip
             (sym (begun_still s old new on.adds c none)))
             (last_on first phases scripts roles start mine old
             new ticks was now place r h.playing is at rest ends plays);
-        desk = desk_stays first session log old new (on.adds.entry ∷ []) d.jobs d.next d.signals d.due by
+        desk = idle_stays log old new d (on.adds.entry ∷ []) idle by
             (λ c. begun_by_none s old new on.adds c none) h.desk;
         logged_before = h.logged_before;
       }
@@ -702,10 +727,10 @@ module _ (first : Scene) (session : JobsSession) (scripts : Scene → List Scrip
               | inr other ↦ elsewhere x other
             ]) (call_on first phases scripts roles start more old
             new ticks was now place call tried calling is tries plays);
-        desk = desk_hangs_up first session log new d.jobs d.next d.signals c (caller_at old.terminal c).next handle []
-            (desk_stays first session log old new (on.adds.entry ∷ []) d.jobs d.next d.signals
-            (passed_down c handle ∷ []) by had
-            (subst (λ (es : List JobEvent). IsDeskAt first session log old d.jobs d.next d.signals es) is_due h.desk))
+        desk = desk_hangs_up first session log old new on.adds.entry d.jobs d.next d.signals c
+            (caller_at old.terminal c).next handle [] by had
+            (subst (λ (es : List JobEvent). IsDeskAt first session log old d.jobs d.next d.signals es) is_due h.desk)
+            makes.kept
             (was_answered old new c call makes s on.adds done attempts);
         logged_before = λ x. elim (cases_eq x c) [
           | inl own_one ↦ subst (λ (y : ℕ). AreLoggedBefore session later p y (step_at late y)) (sym own_one)

@@ -1,5 +1,5 @@
 -- The log of a port and its job control, while the port is played.
-use Rattle.std.specs.Prelude.{◌≡◌, ℕ, true, List, [], Option, unwrap_or, length, slice_get, slice_index_or}
+use Rattle.std.specs.Prelude.{◌≡◌, ℕ, true, List, [], ◌∷◌, Option, unwrap_or, length, slice_get, slice_index_or}
 use Rattle.tty_base.specs.declared.counters.Signal.{Signal}
 use Rattle.tty_calls.specs.Plain.{PlainCall, hangs_up, PlainAnswer, done}
 use Rattle.tty_terminal.specs.Terminals.{Terminal, caller_at, has_begun}
@@ -36,6 +36,11 @@ pub record IsLoggedAt (first : Scene) (session : JobsSession) (log : JobLog) (v 
       → has_begun (caller_at v.terminal c) ≡ true
       → HasGoneOn first.port session v u c (caller_at v.terminal c).next
 
+-- what is due comes at once: it became due behind this entry
+abbrev pub ComeAtOnce : (due : List JobEvent) → (since entries : ℕ) → Type 0
+ComeAtOnce [] since entries = Unit {0}
+ComeAtOnce (e ∷ due) since entries = entries ≡ since
+
 -- .. with this job control, these next steps, so many signals sent on, and these events due
 pub record IsDeskAt (first : Scene) (session : JobsSession) (log : JobLog) (v : PortValue) (jobs : JobState)
     (next : List ℕ) (signals : ℕ) (due : List JobEvent) : Type 0 where
@@ -45,6 +50,7 @@ pub record IsDeskAt (first : Scene) (session : JobsSession) (log : JobLog) (v : 
   pub next_are : state.next ≡ next
   pub signals_are : state.signals ≡ signals
   pub due_are : state.due ≡ due
+  pub at_once : ComeAtOnce due state.now.at (length v.journal)
 
 -- what the port's answer to a call makes of job control, and what is due then
 abbrev pub jobs_passed : JobState → PlainCall → PlainAnswer → JobState

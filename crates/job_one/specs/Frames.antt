@@ -1,5 +1,5 @@
 -- A phase of a port of processes, behind its line, as the player's functions speak of it.
-use Rattle.std.specs.Prelude.{◌≡◌, ◌≤◌, ◌<◌, ◌-◌, ◌^◌, ℕ, IsTrue, List, [], ◌∷◌}
+use Rattle.std.specs.Prelude.{◌≡◌, ◌≤◌, ◌<◌, ◌+◌, ◌-◌, ◌^◌, ℕ, IsTrue, List, [], ◌∷◌}
 use Rattle.std.specs.Prelude.{false, Some, length, slice_get, slice_index_or}
 use Rattle.tty_calls.specs.declared.sessions.Script.{Script}
 use Rattle.tty_calls.specs.Plain.{PlainCall, hangs_up}
@@ -18,6 +18,7 @@ use Rattle.job_text.specs.Events.{JobEvent, passed_down}
 use Rattle.job_text.specs.Sessions.{JobCall, JobsSession}
 use Rattle.job_steps.specs.Derived.{block_phases}
 use Rattle.job_steps.specs.Steps.{is_own, judged_call}
+use Rattle.passed_laws.specs.Passed.{begin_of}
 use Rattle.passed_laws.specs.Witness.{IsCalling}
 use Rattle.job_one.specs.Desk.{proc_in, call_after, signals_of}
 use Rattle.job_one.specs.Events.{DeskState}
@@ -59,6 +60,10 @@ pub record IsForPort (f : Frame) (roles : List Role) (v : PortValue) (d : DeskSt
   pub known : role.number < length d.next
   pub few : slice_index_or d.next role.number 0 < 2 ^ 32 - 1
   pub has : call_after f.session f.first.port d.next role.number ≡ Some (plain call)
+  pub from : begin_of f.first.port (block_phases f.session) f.start.terminal.phase role.number
+      ≤ slice_index_or d.next role.number 0
+  pub to : slice_index_or d.next role.number 0
+      < begin_of f.first.port (block_phases f.session) (f.start.terminal.phase + 1) role.number
   pub goes_on : begun_at v role.number ≡ false
       → judged_call d.jobs v.terminal (proc_in f.session f.first.port role.number) call ≡ Pass
   pub calling : IsCalling f.first (block_phases f.session) f.scripts roles f.start
@@ -75,6 +80,10 @@ pub record IsOwnCall (f : Frame) (roles : List Role) (v : PortValue) (d : DeskSt
   pub caller : role.number < length d.callers
   pub proc : slice_index_or d.callers role.number 0 ≡ proc_in f.session f.first.port role.number
   pub has : call_after f.session f.first.port d.next role.number ≡ Some call
+  pub from : begin_of f.first.port (block_phases f.session) f.start.terminal.phase role.number
+      ≤ slice_index_or d.next role.number 0
+  pub to : slice_index_or d.next role.number 0
+      < begin_of f.first.port (block_phases f.session) (f.start.terminal.phase + 1) role.number
   pub its : IsTrue (is_own d.jobs v.terminal (proc_in f.session f.first.port role.number) call)
 
 -- the hangup of the process of the caller at a place, which has ended in its turn

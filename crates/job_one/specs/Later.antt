@@ -1,10 +1,7 @@
 -- The log of a port whose journal still grows: what is said of it holds of each journal that the port can come to.
-use Rattle.std.specs.Prelude.{◌≡◌, ◌≤◌, ◌-◌, ◌+◌, ℕ, List, [], ◌∷◌, ◌++◌, length, sum}
-use Rattle.tty_calls.specs.Plain.{PlainAnswer, PlainEntry}
-use Rattle.tty_terminal.specs.Terminals.{opening}
-use Rattle.tty_terminal.specs.Runs.{Grows}
-use Rattle.port_core.specs.Ports.{PortValue, call_in}
-use Rattle.passed_calls.specs.Journals.{Journal, IsAnswerBy}
+use Rattle.std.specs.Prelude.{◌≡◌, ◌≤◌, ◌+◌, ℕ, length}
+use Rattle.port_core.specs.Ports.{PortValue}
+use Rattle.passed_calls.specs.Journals.{Journal}
 use Rattle.passed_laws.specs.Later.{IsLater}
 use Rattle.passed_calls.specs.Logs.{logged_on}
 use Rattle.job_text.specs.Events.{JobLog}

@@ -1,5 +1,5 @@
 -- What playing a session of processes comes to.
-use Rattle.std.specs.Prelude.{◌≡◌, ◌≢◌, ◌<◌, ◌+◌, ◌==◌, ℕ, List, [], ◌∷◌, ◌++◌, Bool, false, Some}
+use Rattle.std.specs.Prelude.{◌≡◌, ◌≢◌, ◌<◌, ◌==◌, ℕ, List, [], ◌∷◌, ◌++◌, Bool, false, Some}
 use Rattle.std.specs.Prelude.{if◌then◌else◌, length, flat_map, slice_get, sum, option_map, unwrap_or}
 use Rattle.std.specs.List.{range_with_len}
 use Rattle.tty_calls.specs.declared.answers.PortEnd.{PortEnd}

@@ -1,8 +1,7 @@
 -- What a player of a session of processes keeps between two turns of a port.
-use Rattle.std.specs.Prelude.{◌<◌, ◌+◌, ◌==◌, ◌||◌, ℕ, Bool, List, [], ◌∷◌, ◌++◌, All, if◌then◌else◌, slice_index_or}
+use Rattle.std.specs.Prelude.{◌<◌, ◌==◌, ℕ, Bool, List, [], ◌∷◌, ◌++◌, All, if◌then◌else◌, slice_index_or}
 use Rattle.tty_calls.specs.declared.sessions.Script.{Script}
 use Rattle.tty_calls.specs.Plain.{hangs_up}
-use Rattle.tty_terminal.specs.Terminals.{caller_at, has_begun}
 use Rattle.passed_calls.specs.Derived.{Passing, by_caller}
 use Rattle.port_core.specs.Ports.{PortValue}
 use Rattle.one_thread.specs.Roles.{Scene}
@@ -12,7 +11,7 @@ use Rattle.job_control.specs.Control.{JobState}
 use Rattle.job_text.specs.Events.{JobEvent, JobLog}
 use Rattle.job_text.specs.Sessions.{JobsSession}
 use Rattle.job_steps.specs.Derived.{block_phases, plain_call, passings_on}
-use Rattle.passed_laws.specs.Begun.{begun_at, begun_with}
+use Rattle.passed_laws.specs.Begun.{begun_at}
 use Rattle.job_one.specs.Latest.{latest_on}
 use Rattle.job_one.specs.Desk.{call_after, IsDeskAt}
 use Rattle.passed_laws.specs.Witness.{IsPlaying}

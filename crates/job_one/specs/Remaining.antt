@@ -1,5 +1,5 @@
 -- What the callers of a phase have still to call.
-use Rattle.std.specs.Prelude.{◌≡◌, ◌≤◌, ◌<◌, ◌+◌, ℕ, List, Some, length, slice_get, slice_index_or}
+use Rattle.std.specs.Prelude.{◌≡◌, ◌+◌, ℕ, List, Some, length, slice_get, slice_index_or}
 use Rattle.one_thread.specs.Turns.{IsAbsent}
 use Rattle.one_thread.specs.declared.roles.Role.{Role}
 use Rattle.job_text.specs.Sessions.{JobCall, JobsSession}

@@ -1,6 +1,6 @@
 -- What a turn of a phase of processes leaves.
 use Rattle.std.specs.Prelude.{◌≡◌, ◌≤◌, ◌<◌, ◌+◌, ◌-◌, ◌^◌, ℕ, Bool, true, false, not, is_none, IsTrue, List}
-use Rattle.std.specs.Prelude.{[], ◌∷◌, Some, if◌then◌else◌, length, slice_get, slice_index_or, slice_set}
+use Rattle.std.specs.Prelude.{[], Some, if◌then◌else◌, length, slice_get, slice_index_or, slice_set}
 use Rattle.tty_terminal.specs.Terminals.{caller_at}
 use Rattle.port_core.specs.Ports.{PortValue}
 use Rattle.one_thread.specs.declared.roles.Role.{Role}

@@ -12,15 +12,12 @@ ghost use Rattle.job_text.specs.declared.calls.OwnCall.TheVariants as own;
 ghost use Rattle.passed_calls.specs.Scripts.{further};
 ghost use Rattle.job_one.specs.Controls.{came_to, due_events, ended_due, hangup_due, told_by, refused_or};
 
-use handle_table::HandleState;
 use job_control::{JobAct, JobAnswer, JobRefusal, JobSignal, Jobs, Judged, Target};
 use job_text::OwnCall;
+use live_handles::least_live;
 use port_core::Port;
 use tty_base::Errno;
 use tty_modes::places::TOSTOP;
-
-/// How many numbers handles have.
-const HANDLES: u8 = 32;
 
 /// What is due behind a call.
 #[derive(Clone, Copy)]
@@ -224,26 +221,4 @@ pub fn hangup_through(port: &Port, due: Due) -> Option<u8>
         Due::Ended(_) => least_live(port),
         _ => None,
     }
-}
-
-fn is_live(handle: Option<HandleState>) -> bool
-    ensures { result ≡ is_live handle }
-{
-    match handle {
-        Some(handle) => handle.live,
-        None => false,
-    }
-}
-
-/// The least number of a live handle.
-fn least_live(port: &Port) -> Option<u8>
-    ensures { result ≡ position is_live port.now.terminal.handles }
-{
-    let _journal = port.journal();
-    for h in 0..HANDLES {
-        if is_live(port.handle(h)) {
-            return Some(h);
-        }
-    }
-    None
 }

@@ -5,7 +5,7 @@ ghost use Rattle.std.specs.Prelude.{◌≡◌, ◌≤◌, ◌+◌, ℕ, IsTrue, 
 ghost use Rattle.std.specs.Prelude.{true, false, length, slice_get, slice_index_or, slice_set};
 ghost use Rattle.tty_base.specs.declared.counters.Signal.{Signal};
 ghost use Rattle.tty_calls.specs.declared.sessions.Script.{Script};
-ghost use Rattle.tty_calls.specs.Plain.{PlainCall, PlainAnswer, done, PlainEntry, is_caller};
+ghost use Rattle.tty_calls.specs.Plain.{PlainCall, hangs_up, PlainAnswer, done, PlainEntry, is_caller};
 ghost use Rattle.tty_terminal.specs.Terminals.{Terminal, caller_at, has_begun};
 ghost use Rattle.tty_terminal.specs.Steps.{after};
 ghost use Rattle.tty_terminal.specs.Runs.{is_flush, is_of_call};
@@ -13,7 +13,7 @@ ghost use Rattle.tty_base.specs.declared.characters.Flagged.{Flagged};
 ghost use Rattle.word_ring.specs.Ends.{PutterState};
 ghost use Rattle.port_core.specs.Flips.{after_meeting};
 ghost use Rattle.port_core.specs.Phases.{EndsLine};
-ghost use Rattle.port_core.specs.Ports.{PortValue, IsPort};
+ghost use Rattle.port_core.specs.Ports.{PortValue, IsPort, call_in};
 ghost use Rattle.one_thread.specs.Order.{is_of_consoles};
 ghost use Rattle.one_thread.specs.Roles.{Scene};
 ghost use Rattle.one_thread.specs.Acts.{FlushesOnce};
@@ -32,7 +32,7 @@ ghost use Rattle.job_text.specs.Events.{JobEvent, own, passed, passed_down, sent
 ghost use Rattle.job_text.specs.Sessions.{JobCall, JobsSession};
 ghost use Rattle.job_steps.specs.Steps.{outcome_of, is_own, is_of_step, judged_call, job_signal, foreground_target};
 ghost use Rattle.passed_laws.specs.Later.{ComesBy, WasAnswered};
-ghost use Rattle.job_steps.specs.Derived.{passings_on};
+ghost use Rattle.job_steps.specs.Derived.{IsStepIn, passings_on};
 ghost use Rattle.job_one.specs.Along.{SendsAlong, StopsAlong};
 ghost use Rattle.job_one.specs.Events.{DeskState, new_sent_on, IsSameDesk, HasRaised, StandsAt};
 ghost use Rattle.passed_laws.specs.Begun.{HadBegun};
@@ -71,9 +71,12 @@ pub fn desks_follow_their_ports()
         → IsDeskAt first session
         (log ++ record { port = first.port; at = length v.journal; event = sent signal target } ∷ [])
         v jobs next signals rest }
-    ensures hangs_up { (first : Scene) (session : JobsSession) (log : JobLog) (v : PortValue) (jobs : JobState)
-        (next : List ℕ) (signals : ℕ) (c step handle : ℕ) (rest : List JobEvent)
-        → IsDeskAt first session log v jobs next signals (passed_down c handle ∷ rest)
+    ensures hangs_up { (first : Scene) (session : JobsSession) (log : JobLog) (old v : PortValue) (e : PlainEntry)
+        (jobs : JobState) (next : List ℕ) (signals : ℕ) (c step handle : ℕ) (rest : List JobEvent)
+        → ComesBy old v (e ∷ [])
+        → ((x : ℕ) → HadBegun old v x)
+        → IsDeskAt first session log old jobs next signals (passed_down c handle ∷ rest)
+        → call_in v.kept c step ≡ Some (hangs_up handle)
         → WasAnswered v c step done
         → IsDeskAt first session
         (log ++ record { port = first.port; at = length v.journal; event = passed_down c handle } ∷ [])
@@ -104,6 +107,7 @@ pub fn desks_follow_their_ports()
         → length (signals_of v.terminal) ≤ signals
         → has_begun (caller_at v.terminal r.number) ≡ false
         → call_after session first.port next r.number ≡ Some call
+        → IsStepIn first.port session v.terminal.phase r.number (slice_index_or next r.number 0)
         → IsTrue (is_own jobs v.terminal (proc_in session first.port r.number) call)
         → IsDeskAt first session
         (log
@@ -116,13 +120,13 @@ pub fn desks_follow_their_ports()
         (slice_set next r.number (slice_index_or next r.number 0 + 1)) signals
         (outcome_of jobs v.terminal (proc_in session first.port r.number) r.number call).due }
     ensures stays { (first : Scene) (session : JobsSession) (log : JobLog) (v w : PortValue) (part : List PlainEntry)
-        (jobs : JobState) (next : List ℕ) (signals : ℕ) (due : List JobEvent)
+        (jobs : JobState) (next : List ℕ) (signals : ℕ)
         → ComesBy v w part
         → ((c : ℕ) → HadBegun v w c)
-        → IsDeskAt first session log v jobs next signals due
-        → IsDeskAt first session log w jobs next signals due }
+        → IsDeskAt first session log v jobs next signals []
+        → IsDeskAt first session log w jobs next signals [] }
     ensures begins { (first : Scene) (session : JobsSession) (log : JobLog) (v w : PortValue) (e : PlainEntry) (c : ℕ)
-        (jobs : JobState) (next : List ℕ) (signals : ℕ) (due : List JobEvent) (call : PlainCall) (d : Journal)
+        (jobs : JobState) (next : List ℕ) (signals : ℕ) (call : PlainCall) (d : Journal)
         → IsPort v
         → ComesBy v w (e ∷ [])
         → ((x : ℕ) → (x ≡ c → ⊥) → HadBegun v w x)
@@ -131,17 +135,20 @@ pub fn desks_follow_their_ports()
         → call_after session first.port next c ≡ Some (plain call)
         → (has_begun (caller_at v.terminal c) ≡ false
         → judged_call jobs v.terminal (proc_in session first.port c) call ≡ Pass)
-        → IsDeskAt first session log v jobs next signals due
-        → IsDeskAt first session log w jobs next signals due }
+        → IsDeskAt first session log v jobs next signals []
+        → IsDeskAt first session log w jobs next signals [] }
     ensures passes { (first : Scene) (session : JobsSession) (log : JobLog) (old v : PortValue) (e : PlainEntry) (c : ℕ)
         (jobs : JobState) (next : List ℕ) (signals : ℕ) (call : PlainCall) (answer : PlainAnswer) (d : Journal)
         → IsPort old
+        → IsPort v
         → ComesBy old v (e ∷ [])
         → ((x : ℕ) → (x ≡ c → ⊥) → HadBegun old v x)
         → has_begun (caller_at v.terminal c) ≡ false
         → is_of_step c (caller_at old.terminal c).next e ≡ true
         → WasAnswered v c (caller_at old.terminal c).next answer
         → call_after session first.port next c ≡ Some (plain call)
+        → IsStepIn first.port session v.terminal.phase c (slice_index_or next c 0)
+        → call_in v.kept c (caller_at old.terminal c).next ≡ Some call
         → (has_begun (caller_at old.terminal c) ≡ false
         → judged_call jobs old.terminal (proc_in session first.port c) call ≡ Pass)
         → IsDeskAt first session log old jobs next signals []

@@ -3,9 +3,9 @@
 ghost use Rattle.std.specs.Prelude.{◌≡◌, ◌<◌, ◌≤◌, ◌+◌, ℕ, IsTrue, List, [], ◌∷◌};
 ghost use Rattle.std.specs.Prelude.{◌++◌, Some, true, false, length, slice_get};
 ghost use Rattle.tty_base.specs.declared.counters.Signal.{Signal};
-ghost use Rattle.tty_calls.specs.Plain.{PlainCall, PlainAnswer, done, PlainEntry};
+ghost use Rattle.tty_calls.specs.Plain.{PlainCall, hangs_up, PlainAnswer, done, PlainEntry};
 ghost use Rattle.tty_terminal.specs.Terminals.{caller_at, has_begun};
-ghost use Rattle.port_core.specs.Ports.{PortValue, IsPort};
+ghost use Rattle.port_core.specs.Ports.{PortValue, IsPort, call_in};
 ghost use Rattle.job_control.specs.declared.answers.JobAnswer.{JobAnswer};
 ghost use Rattle.job_control.specs.declared.answers.Target.{Target};
 ghost use Rattle.job_control.specs.declared.processes.JobSignal.{JobSignal};
@@ -14,6 +14,7 @@ ghost use Rattle.passed_calls.specs.Scripts.{plain};
 ghost use Rattle.passed_calls.specs.Journals.{Journal, terminal_at};
 ghost use Rattle.job_text.specs.Events.{JobEvent, own, passed, passed_down, sent, JobLog};
 ghost use Rattle.job_text.specs.Sessions.{JobCall, JobsSession};
+ghost use Rattle.job_steps.specs.Derived.{IsStepIn};
 ghost use Rattle.job_steps.specs.Steps.{Port, JobsState, first_place, is_of_step, judged_call, jobs_before, proc_of};
 ghost use Rattle.job_steps.specs.Steps.{next_of, next_call, with_jobs, answered_for, after_own, after_passed};
 ghost use Rattle.job_steps.specs.Steps.{after_event, outcome_of, is_own, job_signal, foreground_target};
@@ -28,15 +29,22 @@ pub fn logs_grow()
         → HasLogged p session log v u
         → u.due ≡ []
         → next_call (port_with p session d) u c ≡ Some call
+        → IsStepIn p session v.terminal.phase c (next_of u c)
+        → has_begun (caller_at v.terminal c) ≡ false
         → IsTrue (is_own u.now.jobs v.terminal (proc_of (port_with p session d) c) call)
         → answer ≡ (outcome_of u.now.jobs v.terminal (proc_of (port_with p session d) c) c call).answer
         → HasLogged p session
         (log ++ record { port = p; at = length v.journal; event = own c (next_of u c) answer } ∷ []) v
         (answered_for (after_own v.terminal (proc_of (port_with p session d) c) c u (length v.journal) (Some call)) c) }
     ensures passed { (p : ℕ) (session : JobsSession) (log : JobLog) (v : PortValue) (u : JobsState) (d : Journal)
-        (c step : ℕ) (answer : PlainAnswer)
+        (c step : ℕ) (call : PlainCall) (answer : PlainAnswer)
+        → IsPort v
         → HasLogged p session log v u
         → u.due ≡ []
+        → next_call (port_with p session d) u c ≡ Some (plain call)
+        → IsStepIn p session v.terminal.phase c (next_of u c)
+        → call_in v.kept c step ≡ Some call
+        → u.now.at < length v.journal
         → WasAnswered v c step answer
         → HasGoneOn p session v u c step
         → HasLogged p session
@@ -46,12 +54,15 @@ pub fn logs_grow()
         (target : Target) (rest : List JobEvent)
         → HasLogged p session log v u
         → u.due ≡ sent signal target ∷ rest
+        → length v.journal ≡ u.now.at
         → HasLogged p session (log ++ record { port = p; at = length v.journal; event = sent signal target } ∷ []) v
         (record (with_jobs u (length v.journal) u.now.jobs) { signals = u.signals; due = rest }) }
     ensures down { (p : ℕ) (session : JobsSession) (log : JobLog) (v : PortValue) (u : JobsState) (c step handle : ℕ)
         (rest : List JobEvent)
         → HasLogged p session log v u
         → u.due ≡ passed_down c handle ∷ rest
+        → length v.journal ≡ u.now.at + 1
+        → call_in v.kept c step ≡ Some (hangs_up handle)
         → WasAnswered v c step done
         → HasLogged p session (log ++ record { port = p; at = length v.journal; event = passed_down c handle } ∷ []) v
         (record (with_jobs u (length v.journal) u.now.jobs) { due = rest }) }

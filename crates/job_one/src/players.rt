@@ -31,7 +31,7 @@ ghost use Rattle.job_control.specs.declared.processes.JobSignal.{JobSignal};
 ghost use Rattle.job_control.specs.declared.processes.Judged.TheVariants.{Pass};
 ghost use Rattle.job_text.specs.Events.{JobEvent, own, passed, passed_down, sent, JobLog};
 ghost use Rattle.job_text.specs.Sessions.{JobCall, JobsSession};
-ghost use Rattle.job_steps.specs.Derived.{block_phases};
+ghost use Rattle.job_steps.specs.Derived.{IsStepIn, block_phases};
 ghost use Rattle.job_steps.specs.Steps.{outcome_of, is_own, judged_call, job_signal, foreground_target};
 ghost use Rattle.passed_laws.specs.Passed.{begin_of, IsOfBlocks};
 ghost use Rattle.passed_calls.specs.Within.{AreBlocksWithin};
@@ -52,6 +52,7 @@ pub fn players_take_their_turns()
         (start : PortValue) (log : JobLog) (old new : PortValue) (d : DeskValue) (ticks : ℕ) (was now : Stand)
         (next : Turn)
         → IsPlayingJobs first session scripts roles start log old d ticks was
+        → d.due ≡ []
         → IsTurn (is_of_consoles first.session) old (role_numbers roles) was.going next
         → ((c : ℕ) → is_caller (who_of (role_numbers roles) next) c ≡ false)
         → PlaysTurn roles old new was now next
@@ -61,6 +62,7 @@ pub fn players_take_their_turns()
         (start : PortValue) (log : JobLog) (old new : PortValue) (d : DeskValue) (ticks : ℕ) (was now : Stand)
         (place : ℕ) (r : Role)
         → IsPlayingJobs first session scripts roles start log old d ticks was
+        → d.due ≡ []
         → IsTurn (is_of_consoles first.session) old (role_numbers roles) was.going (turn.Call place)
         → slice_get roles place ≡ Some r
         → begun_at old r.number ≡ false
@@ -110,6 +112,7 @@ pub fn players_answer_calls()
         → begun_at v r.number ≡ false
         → r.number < length d.next
         → call_after session first.port d.next r.number ≡ Some call
+        → IsStepIn first.port session v.terminal.phase r.number (step_at d r.number)
         → IsTrue (is_own d.jobs v.terminal (proc_in session first.port r.number) call)
         → IsPlayingJobs first session scripts roles start
         (log
@@ -158,6 +161,7 @@ pub fn players_pass_calls_down()
         (start : PortValue) (log : JobLog) (old new : PortValue) (d : DeskValue) (ticks : ℕ) (was now : Stand)
         (place : ℕ) (r : Role) (call : PlainCall) (tried : PlainTried) (j : Journal)
         → IsPlayingJobs first session scripts roles start log old d ticks was
+        → d.due ≡ []
         → IsCalling first (block_phases session) scripts roles start
         (passings_with session log first.port d (begun_with old r.number)) old ticks was place call
         → IsTurn (is_of_consoles first.session) old (role_numbers roles) was.going (turn.Call place)
@@ -179,10 +183,12 @@ pub fn players_pass_calls_down()
         → IsTurn (is_of_consoles first.session) old (role_numbers roles) was.going (turn.Call place)
         → slice_get roles place ≡ Some r
         → IsPort old
+        → IsPort new
         → d.due ≡ []
         → length (signals_of old.terminal) ≤ d.signals
         → r.number < length d.next
         → call_after session first.port d.next r.number ≡ Some (plain call)
+        → IsStepIn first.port session start.terminal.phase r.number (step_at d r.number)
         → (begun_at old r.number ≡ false
         → judged_call d.jobs old.terminal (proc_in session first.port r.number) call ≡ Pass)
         → TriesCall roles old new place call (done_by answer)

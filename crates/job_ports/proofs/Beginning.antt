@@ -1,6 +1,6 @@
 -- The beginning of a phase of a session that is kept.
-use Rattle.std.proofs.Common.{◌≡◌, ◌≤◌, ◌<◌, ℕ, zero, suc, ◌+◌, ◌==◌, Bool, List, [], ◌∷◌}
-use Rattle.std.proofs.Common.{Option, length, map, sum, refl, sym, ap, ◌∙◌, subst, arith}
+use Rattle.std.proofs.Common.{◌≡◌, ◌≤◌, ◌<◌, ℕ, zero, suc, Bool, List, [], ◌∷◌}
+use Rattle.std.proofs.Common.{length, map, sum, refl, sym, ap, ◌∙◌, subst, arith}
 use Rattle.std.specs.Prelude.{All, IsTrue, slice_get, slice_index_or}
 use Rattle.tty_base.specs.Lines.{is_step}
 use Rattle.tty_base.specs.declared.lines.LineStep.{LineStep}

@@ -10,9 +10,9 @@ use Rattle.tty_calls.specs.Plain.{PlainCall}
 use Rattle.tty_calls.specs.Limits.{IsCallWithin, IsScriptWithin, IsPhaseWithin}
 use Rattle.tty_calls.specs.Limits.{IsWithinLimits, call_count, character_count, tick_count}
 use Rattle.tty_calls.specs.Sessions.{PlainScript, PlainPhase, PlainSession, line_on}
-use Rattle.tty_calls.specs.Sessions.{ticks_on, scripts_on, names_of, with_name}
+use Rattle.tty_calls.specs.Sessions.{ticks_on, scripts_on, with_name}
 use Rattle.passed_calls.specs.declared.placed.PlacedCall.{PlacedCall}
-use Rattle.passed_calls.specs.Blocks.{Block, bare, blocks_on, names_on}
+use Rattle.passed_calls.specs.Blocks.{Block, bare, blocks_on}
 use Rattle.passed_calls.specs.Derived.{BlockPhase}
 use Rattle.passed_calls.specs.Scripts.{AnyCall, CallerScript, plain, further, block_of, count_in, mixed, mixed_scripts, phases_with}
 use Rattle.passed_calls.specs.Within.{IsBlockPhaseWithin, IsAnyCallWithin, AreCallsWithin}

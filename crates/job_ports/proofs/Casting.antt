@@ -4,17 +4,15 @@ use Rattle.std.proofs.Common.{Option, Some, length, map, filter, sum, refl, sym,
 use Rattle.std.specs.Prelude.{All, slice_get, slice_index_or, flat_map}
 use Rattle.std.proofs.lemmas.Bool.{cases_eq}
 use Rattle.tty_calls.specs.declared.sessions.Script.{Script}
-use Rattle.tty_calls.specs.declared.sessions.Session.{Session}
-use Rattle.tty_calls.specs.Sessions.{PlainScript, PlainPhase, PlainSession, session_of}
-use Rattle.tty_calls.specs.Sessions.{script_of, scripts_on, scripts_over, names_of, counts_on}
+use Rattle.tty_calls.specs.Sessions.{PlainScript, PlainPhase, PlainSession}
+use Rattle.tty_calls.specs.Sessions.{script_of, scripts_over}
 use Rattle.tty_terminal.specs.Terminals.{Terminal, caller_at}
 use Rattle.journal_check.specs.Legal.{phase_at}
-use Rattle.port_core.specs.Ports.{PortValue}
 use Rattle.one_thread.specs.Roles.{Scene, names_in, role_in}
-use Rattle.one_thread.specs.Casting.{HaveSameCallers, IsNumbered, own_scripts, cast_of}
+use Rattle.one_thread.specs.Casting.{IsNumbered, own_scripts, cast_of}
 use Rattle.one_thread.specs.declared.roles.Role.{Role}
 use Rattle.one_thread.proofs.NameLemmas.{number_at, few_names}
-use Rattle.one_thread.proofs.RoleLemmas.{phase_numbered, few_names_in, sum_counts}
+use Rattle.one_thread.proofs.RoleLemmas.{phase_numbered, sum_counts}
 use Rattle.order_laws.proofs.Shapes.{names_same, counts_same}
 use Rattle.passed_calls.specs.declared.placed.PlacedCall.{PlacedCall}
 use Rattle.passed_calls.specs.Blocks.{names_on}
@@ -29,8 +27,6 @@ use Rattle.job_text.specs.Within.{IsJobsSessionWithin}
 use Rattle.job_steps.specs.Derived.{block_phases, job_call_at}
 use Rattle.passed_laws.specs.Passed.{IsPassedBy, begin_of}
 use Rattle.passed_laws.specs.Filled.{AreNextSteps}
-use Rattle.job_one.specs.Events.{DeskState}
-use Rattle.job_one.specs.AfterLine.{HasProcs}
 use Rattle.calls_left.specs.Remaining.{calls_of_port}
 use Rattle.job_one.specs.Remaining.{AreLeft}
 use Rattle.passed_laws.proofs.Blocks.{of_blocks, same_shape}

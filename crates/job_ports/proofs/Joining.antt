@@ -1,7 +1,7 @@
 -- Ports that were played one after the other make a session that was played.
-use Rattle.std.proofs.Common.{◌≡◌, ◌≢◌, ◌≤◌, ◌<◌, ◌⊎◌, inl, inr, ℕ, zero, suc, ◌+◌, ◌==◌, Bool, true}
+use Rattle.std.proofs.Common.{◌≡◌, ◌≤◌, ◌<◌, ◌⊎◌, inl, inr, ℕ, zero, suc, ◌+◌, ◌==◌, Bool, true}
 use Rattle.std.proofs.Common.{false, cond, List, [], ◌∷◌, ◌++◌, Option, None, Some, length, map}
-use Rattle.std.proofs.Common.{filter, refl, sym, ap, ◌∙◌, subst, arith, append-nil, length-append}
+use Rattle.std.proofs.Common.{refl, sym, ap, ◌∙◌, subst, arith, append-nil, length-append}
 use Rattle.std.specs.Prelude.{All, flat_map, slice_get, unwrap_or, option_map, if◌then◌else◌}
 use Rattle.std.specs.List.{range_with_len}
 use Rattle.std.proofs.lemmas.Bool.{eq-eqb, ne_eqb}
@@ -14,7 +14,7 @@ use Rattle.tty_calls.specs.Sessions.{PlainSession}
 use Rattle.tty_terminal.specs.Standing.{standing_in, at_first}
 use Rattle.one_thread.proofs.PortLemmas.{last_or, get_none, some_is}
 use Rattle.passed_calls.specs.Blocks.{names_on}
-use Rattle.passed_calls.specs.Derived.{Passing, Passed, by_caller, calls_at}
+use Rattle.passed_calls.specs.Derived.{Passing, Passed, by_caller}
 use Rattle.passed_calls.specs.Logs.{logged_on}
 use Rattle.passed_calls.specs.Within.{ArePassedWithin}
 use Rattle.passed_calls.specs.declared.logs.Logged.{Logged}
@@ -22,11 +22,11 @@ use Rattle.passed_calls.proofs.Limits.{within_limits}
 use Rattle.job_text.specs.Events.{JobEvent, JobLog}
 use Rattle.job_text.specs.Sessions.{JobsSession, blocks_in}
 use Rattle.job_text.specs.Within.{IsJobsSessionWithin}
-use Rattle.job_steps.specs.Derived.{block_phases, passings_on, passings_from, job_call_at, plain_call, derived}
+use Rattle.job_steps.specs.Derived.{block_phases, passings_from, job_call_at, plain_call}
 use Rattle.job_steps.specs.Steps.{first_state, Leads}
 use Rattle.job_steps.specs.Order.{AreEventsInTurn}
 use Rattle.job_one.specs.Played.{answered_by, begun_in, journal_on, derived_with, port_in}
-use Rattle.job_one.specs.Played.{IsLogged, IsLoggedWhole, IsJobPlayedOn, AreJobsPlayed, AreNotFull}
+use Rattle.job_one.specs.Played.{IsJobPlayedOn, AreJobsPlayed, AreNotFull}
 use Rattle.job_one.proofs.Deriving.{whole_derived}
 use Rattle.passed_ports.specs.Ports.{ArePassingsWithin, IsPlayedWith}
 use Rattle.job_ports.specs.Ports.{all_passed, IsPortPlayed, AreFirstPlayed}
@@ -209,7 +209,7 @@ no_begun session log runs q le =
     ap (λ (o : Option PortRun). begun_in session log q (journal_or o)) (none_at runs q le)
     ∙ nothing_begun session log q [] (λ c. refl)
 
-no_passings : (session : JobsSession) (count : ℕ) (log : JobLog) (runs : List PortRun) (q : ℕ)
+pub no_passings : (session : JobsSession) (count : ℕ) (log : JobLog) (runs : List PortRun) (q : ℕ)
     → length runs ≡ count
     → All (λ l. l.port < count) log
     → length runs ≤ q

@@ -1,4 +1,3 @@
-pub mod Rising
 pub mod Noted
 pub mod Started
 pub mod Playing
@@ -10,3 +9,4 @@ pub mod Casting
 pub mod Beginning
 pub mod Starting
 pub mod Endings
+pub mod Derived

@@ -1,7 +1,7 @@
 -- A phase of a port of processes: from its beginning to its end, or as far as it went.
-use Rattle.std.proofs.Common.{◌≡◌, ◌≤◌, ◌<◌, ℕ, ◌+◌, Bool, true, false, List, [], ◌∷◌, ◌++◌, Option, None, length}
-use Rattle.std.proofs.Common.{map, if◌then◌else◌, refl, sym, ap, ◌∙◌, subst, arith, append_assoc, append-nil}
-use Rattle.std.specs.Prelude.{Result, Ok, Err, IfErr, IfOk, OnErr, slice_index_or}
+use Rattle.std.proofs.Common.{◌≡◌, ◌<◌, ℕ, ◌+◌, Bool, true, false, List, [], ◌∷◌, ◌++◌, None, length}
+use Rattle.std.proofs.Common.{if◌then◌else◌, refl, sym, ap, ◌∙◌, subst, arith, append-nil}
+use Rattle.std.specs.Prelude.{slice_index_or}
 use Rattle.std.proofs.lemmas.Bool.{false≢true}
 use Rattle.tty_base.specs.declared.characters.Flagged.{Flagged}
 use Rattle.tty_base.specs.declared.lines.LineStep.{LineStep}
@@ -10,40 +10,35 @@ use Rattle.uart_line.specs.LineState.{LineState}
 use Rattle.tty_calls.specs.declared.answers.Denied.{Denied}
 use Rattle.tty_calls.specs.declared.answers.Denied.TheVariants.{NoMemory, Full}
 use Rattle.tty_calls.specs.declared.sessions.Script.{Script}
-use Rattle.tty_calls.specs.Sessions.{line_on, ticks_on, script_of}
+use Rattle.tty_calls.specs.Sessions.{line_on, ticks_on}
 use Rattle.tty_terminal.specs.declared.callers.CallerState.{CallerState}
-use Rattle.tty_terminal.specs.Terminals.{Terminal, caller_at, has_begun}
-use Rattle.tty_terminal.specs.Runs.{Grows}
+use Rattle.tty_terminal.specs.Terminals.{has_begun}
 use Rattle.journal_check.specs.Legal.{phase_at}
-use Rattle.port_core.specs.Ports.{PortValue, IsPort, call_in}
+use Rattle.port_core.specs.Ports.{PortValue, IsPort}
 use Rattle.one_thread.specs.Acts.{BeginsLine, BeginsInOrder, PlaysItsLine, StopsItsLine, Playing}
-use Rattle.one_thread.specs.Roles.{Scene, names_in, AreRolesOf}
-use Rattle.one_thread.specs.Lines.{IsAtPhase, PlaysLine, StopsLine}
-use Rattle.one_thread.specs.Phases.{HavePlayedInOrder, IsFullRun}
-use Rattle.one_thread.specs.Stages.{IsOfScene, EndsAfterLine, StopsAfterLine}
-use Rattle.one_thread.specs.declared.after_line.Stand.{Stand}
+use Rattle.one_thread.specs.Roles.{Scene, names_in}
+use Rattle.one_thread.specs.Lines.{IsAtPhase, PlaysLine}
+use Rattle.one_thread.specs.Stages.{EndsAfterLine, StopsAfterLine}
 use Rattle.one_thread.specs.declared.roles.Role.{Role}
 use Rattle.one_thread.proofs.StationLemmas.{at_next_phase, stopped_in_line, stopped_after_line}
-use Rattle.order_laws.specs.Agreed.{Agrees, IsLike, AreRolesOfEach}
+use Rattle.order_laws.specs.Agreed.{IsLike, AreRolesOfEach}
 use Rattle.order_laws.proofs.Agreeing.{before_all}
 use Rattle.order_laws.proofs.Shapes.{phases_same, at_phase}
-use Rattle.passed_calls.specs.Blocks.{names_on}
 use Rattle.passed_calls.specs.Derived.{Passing, by_caller}
-use Rattle.job_text.specs.Sessions.{JobCall, JobsSession, blocks_in}
+use Rattle.job_text.specs.Sessions.{JobCall, JobsSession}
 use Rattle.job_steps.specs.Derived.{block_phases, passings_on}
 use Rattle.passed_laws.specs.Passed.{begin_of}
 use Rattle.passed_laws.specs.Witness.{scene_on, HasPassed}
 use Rattle.passed_laws.specs.Filled.{scripts_in}
 use Rattle.passed_laws.specs.Begun.{HadBegun}
-use Rattle.job_one.specs.Desk.{proc_in, signals_of}
-use Rattle.job_one.specs.Events.{DeskState, IsSameDesk, StandsAt}
-use Rattle.job_one.specs.Along.{IsUpToDate, SendsAlong, StopsAlong, StopsBy}
+use Rattle.job_one.specs.Desk.{proc_in}
+use Rattle.job_one.specs.Events.{DeskState, IsSameDesk}
+use Rattle.job_one.specs.Along.{SendsAlong, StopsAlong, StopsBy}
 use Rattle.job_one.specs.Between.{value_at, passed_by, IsBeforeJobs}
 use Rattle.passed_laws.specs.Begun.{begun_at}
 use Rattle.job_one.specs.Playing.{passings_with, next_passing, IsPlayingJobs}
-use Rattle.job_one.specs.Frames.{Frame, IsAtTurn}
-use Rattle.job_one.specs.AfterLine.{HasProcs, IsFrameWithin, BeginsTurns, EndsTurns, FillsTurns, StopsTurns}
-use Rattle.calls_left.specs.Remaining.{left_at}
+use Rattle.job_one.specs.Frames.{Frame}
+use Rattle.job_one.specs.AfterLine.{HasProcs, BeginsTurns, EndsTurns, FillsTurns, StopsTurns}
 use Rattle.job_one.specs.Remaining.{AreLeft}
 use Rattle.passed_laws.proofs.Adding.{blocks_same}
 use Rattle.job_one.proofs.Along.{same_kept}

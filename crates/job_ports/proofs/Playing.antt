@@ -1,9 +1,10 @@
 -- A session that was played, and the port that it agrees with: hung up after all phases, or full.
-use Rattle.std.proofs.Common.{◌≡◌, ◌≢◌, ◌≤◌, ◌<◌, ◌⊎◌, inl, inr, ℕ, zero, suc, ◌+◌, ◌==◌, Bool}
-use Rattle.std.proofs.Common.{true, false, List, [], ◌∷◌, ◌++◌, Option, length, map, take, sum}
-use Rattle.std.proofs.Common.{flat_map, refl, sym, ap, ◌∙◌, subst, arith, append-nil, length-append}
+use Rattle.std.proofs.Common.{◌≡◌, inl, inr, ℕ, ◌==◌}
+use Rattle.std.proofs.Common.{false, List, [], ◌∷◌, ◌++◌, Option, length, map, take, sum}
+use Rattle.std.proofs.Common.{flat_map, refl, sym, ap, ◌∙◌, subst, arith, append-nil}
 use Rattle.std.specs.Prelude.{slice_get, slice_index_or}
 use Rattle.std.proofs.lemmas.List.{length-map}
+use Rattle.tty_base.specs.Sizes.{MOST_ENTRIES}
 use Rattle.tty_base.specs.declared.characters.Flagged.{Flagged}
 use Rattle.tty_base.specs.declared.counters.Signal.{Signal}
 use Rattle.word_ring.specs.Ends.{PutterState}
@@ -33,20 +34,20 @@ use Rattle.passed_calls.specs.Derived.{Passing, BlockPhase, by_caller, blocks_of
 use Rattle.passed_calls.specs.Journals.{Journal, terminal_after, terminal_at}
 use Rattle.passed_calls.specs.Logs.{logged_on}
 use Rattle.passed_calls.specs.Scripts.{block_of}
-use Rattle.job_text.specs.Events.{JobEvent, JobLog}
+use Rattle.job_text.specs.Events.{JobEvent}
 use Rattle.job_text.specs.Sessions.{JobsPhase, JobsSession, block_phase_of, blocks_in}
 use Rattle.job_steps.specs.Derived.{block_phases, passings_on}
-use Rattle.job_steps.specs.Steps.{JobsState, first_state, raised_at, job_signal}
-use Rattle.passed_laws.specs.Passed.{IsOfBlocks, IsPassedBy, steps_named, begin_of}
+use Rattle.job_steps.specs.Steps.{first_state, raised_at, job_signal}
+use Rattle.passed_laws.specs.Passed.{IsPassedBy, steps_named, begin_of}
 use Rattle.passed_laws.specs.Witness.{scene_on, HasPassed}
 use Rattle.passed_laws.specs.Later.{IsLater}
 use Rattle.job_one.specs.Later.{port_with}
 use Rattle.job_one.specs.Desk.{signals_of, IsDeskAt}
 use Rattle.job_one.specs.Events.{DeskState}
-use Rattle.job_one.specs.Between.{value_at, passed_by, IsBeforeJobs}
+use Rattle.job_one.specs.Between.{value_at, passed_by}
 use Rattle.passed_laws.specs.Begun.{begun_at}
 use Rattle.job_one.specs.Playing.{passings_with}
-use Rattle.job_one.specs.Played.{begun_in, port_in, IsLogged, IsLoggedWhole, IsJobPlayedOn}
+use Rattle.job_one.specs.Played.{port_in, IsLogged, IsLoggedWhole}
 use Rattle.passed_laws.proofs.Adding.{like_first}
 use Rattle.passed_laws.proofs.Blocks.{of_blocks, same_shape}
 use Rattle.passed_laws.proofs.Laters.{front, terminal_now}
@@ -224,7 +225,8 @@ full_played first session v putter line d left end scene full journal plays =
     ap (λ (es : List PlainEntry). by_caller c (all_passed session d.log p es)) journal
     ∙ mine_is first session v d full.due full.port full.desk c in
     let here = full.full (scene_on p has.session) has.like has.agrees in
-    let long : length left.journal.items ≡ 4194304 = ap (λ (es : List PlainEntry). length es) journal ∙ here.1.full in
+    let long : length left.journal.items ≡ MOST_ENTRIES =
+    ap (λ (es : List PlainEntry). length es) journal ∙ here.1.full in
     record {
       within = within_of first (block_phases session) mine v ms has same;
       none_begun = λ not_full. absurd (not_full long);

@@ -1,10 +1,10 @@
 -- The calls that a port has begun and not answered, and all that it was passed.
 use Rattle.std.proofs.Common.{◌≡◌, ◌≤◌, ◌<◌, ◌⊎◌, inl, inr, ℕ, zero, suc, ◌+◌, ◌==◌, Bool, true, false}
-use Rattle.std.proofs.Common.{cond, List, [], ◌∷◌, ◌++◌, Option, None, Some, length, map, filter, sum}
+use Rattle.std.proofs.Common.{cond, List, [], ◌∷◌, ◌++◌, Option, None, Some, length, sum}
 use Rattle.std.proofs.Common.{if◌then◌else◌, refl, sym, ap, ◌∙◌, subst, arith, append-nil}
 use Rattle.std.specs.Prelude.{All, flat_map, slice_get, slice_index_or, replicate}
 use Rattle.std.specs.List.{range_with_len}
-use Rattle.std.proofs.lemmas.Bool.{false≢true, eq-eqb, ne_eqb}
+use Rattle.std.proofs.lemmas.Bool.{eq-eqb, ne_eqb}
 use Rattle.std.proofs.lemmas.List.Elements.{All-nil, All-cons, All-head, All-tail, All-same, All-filter, filter-append}
 use Rattle.tty_calls.specs.Plain.{PlainEntry}
 use Rattle.tty_calls.specs.Limits.{IsCallWithin}
@@ -21,7 +21,7 @@ use Rattle.one_thread.specs.Roles.{Scene}
 use Rattle.job_text.specs.Events.{JobEvent, JobLog, events_on}
 use Rattle.job_text.specs.Sessions.{JobCall, JobsSession, blocks_in}
 use Rattle.job_steps.specs.Derived.{passings_on, plain_call, scripts_over, job_call_at}
-use Rattle.job_steps.specs.Steps.{Port, JobsState, first_state, names_of_port, next_of, next_call, GoesOn, Leads}
+use Rattle.job_steps.specs.Steps.{Port, JobsState, first_state, names_of_port, next_of, next_call, GoesOn}
 use Rattle.passed_laws.specs.Witness.{HasPassed}
 use Rattle.passed_laws.specs.Later.{IsLater}
 use Rattle.job_one.specs.Later.{port_with}

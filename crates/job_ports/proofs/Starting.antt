@@ -1,15 +1,15 @@
 -- A port of a session of processes at the beginning of its session.
-use Rattle.std.proofs.Common.{◌≡◌, ◌≤◌, ◌<◌, ◌⊎◌, inl, inr, ℕ, zero, suc, ◌+◌, ◌==◌, Bool, true}
+use Rattle.std.proofs.Common.{◌≡◌, ◌<◌, inl, inr, ℕ, zero, suc, ◌+◌, ◌==◌, Bool, true}
 use Rattle.std.proofs.Common.{false, cond, List, [], ◌∷◌, ◌++◌, Option, None, Some, length, map}
-use Rattle.std.proofs.Common.{filter, sum, if◌then◌else◌, refl, sym, ap, ◌∙◌, subst, arith}
-use Rattle.std.specs.Prelude.{All, IsSome, fold, position, slice_get, slice_index_or, replicate, unwrap_or, nat_lt}
+use Rattle.std.proofs.Common.{if◌then◌else◌, refl, sym, ap, ◌∙◌, subst, arith}
+use Rattle.std.specs.Prelude.{All, IsSome, fold, slice_get, slice_index_or, replicate, unwrap_or}
 use Rattle.std.specs.Str.{bytes_eq}
-use Rattle.std.specs.List.{list_any, range_with_len, position_or_len}
+use Rattle.std.specs.List.{list_any, range_with_len}
 use Rattle.std.proofs.lemmas.Bool.{false≢true, eqb-true}
 use Rattle.std.proofs.lemmas.List.Elements.{All-nil, All-cons, All-head, All-tail, All-push}
 use Rattle.tty_base.specs.declared.counters.Signal.{Signal}
-use Rattle.tty_calls.specs.Plain.{PlainCall, PlainEntry}
-use Rattle.tty_calls.specs.Sessions.{PlainScript, PlainSession, session_of, names_of, with_name}
+use Rattle.tty_calls.specs.Plain.{PlainEntry}
+use Rattle.tty_calls.specs.Sessions.{PlainScript, session_of, with_name}
 use Rattle.tty_terminal.specs.declared.callers.CallerState.{CallerState}
 use Rattle.tty_terminal.specs.Terminals.{Terminal, opening, caller_at, has_begun}
 use Rattle.tty_terminal.specs.Runs.{IsRun}
@@ -17,14 +17,12 @@ use Rattle.port_core.specs.Ports.{PortValue, IsPort, call_in}
 use Rattle.one_thread.specs.Phases.{IsUpTo, IsBeforePhase}
 use Rattle.one_thread.specs.Roles.{Scene, scene_of, names_in}
 use Rattle.one_thread.specs.declared.phases.Station.{Station}
-use Rattle.order_laws.specs.Agreed.{Agrees, IsLike}
 use Rattle.order_laws.proofs.Opening.{opened_each}
 use Rattle.job_control.specs.declared.processes.Proc.{Proc}
 use Rattle.job_control.specs.Control.{JobState, first_jobs}
 use Rattle.passed_calls.specs.Blocks.{Block, bare, blocks_on, names_on}
 use Rattle.passed_calls.specs.Derived.{Passing, BlockPhase, by_caller, blocks_of}
 use Rattle.passed_calls.specs.Journals.{Journal}
-use Rattle.passed_calls.specs.Logs.{logged_on}
 use Rattle.job_text.specs.declared.sessions.PortProc.{PortProc}
 use Rattle.job_text.specs.declared.sessions.JobsSession.{JobsSession as KeptSession}
 use Rattle.job_text.specs.Events.{JobLog}
@@ -34,16 +32,14 @@ use Rattle.job_steps.specs.Derived.{block_phases, passings_on}
 use Rattle.job_steps.specs.Steps.{JobsState, first_state, proc_named}
 use Rattle.passed_laws.specs.Passed.{AreBefore, begin_of, steps_named}
 use Rattle.passed_laws.specs.Witness.{HasPassed}
-use Rattle.passed_laws.specs.Later.{IsLater}
 use Rattle.job_one.specs.Later.{port_with}
 use Rattle.job_one.specs.Desk.{proc_in, signals_of, IsDeskAt}
 use Rattle.job_one.specs.Events.{DeskState}
-use Rattle.job_one.specs.Between.{passed_by, IsBeforeJobs}
 use Rattle.job_one.specs.Playing.{AreLoggedBefore}
 use Rattle.job_one.specs.AfterLine.{HasProcs}
 use Rattle.passed_laws.proofs.Adding.{blocks_same}
 use Rattle.passed_laws.proofs.Opens.{opens_with_none, nothing_before}
-use Rattle.job_ports.specs.Callers.{AreCallers, caller_of}
+use Rattle.job_ports.specs.Callers.{AreCallers}
 use Rattle.job_ports.specs.Between.{IsBetween, IsDeskOpened}
 use Rattle.job_ports.specs.declared.phases.JobStation.{JobStation}
 use Rattle.job_ports.proofs.Casting.{scene_of_session, names_are}
@@ -212,6 +208,7 @@ desk_opened first session procs v d same many opened idle =
       next_are = ap (λ (n : ℕ). replicate n 0) (sym many) ∙ sym opened.next;
       signals_are = sym opened.sent;
       due_are = refl;
+      at_once = tt;
     }
 
 pub opened_between : (p : ℕ) (kept : KeptSession) (names : List (List ℕ)) (station : Station) (at : JobStation)

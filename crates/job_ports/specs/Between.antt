@@ -1,5 +1,5 @@
 -- A port of a session of processes between two phases, and what a phase is played of.
-use Rattle.std.specs.Prelude.{◌≡◌, ◌<◌, ℕ, Bool, IsTrue, List, [], All, length, map, slice_index_or, replicate}
+use Rattle.std.specs.Prelude.{◌≡◌, ◌<◌, ℕ, Bool, IsTrue, List, [], All, length, map, replicate}
 use Rattle.tty_base.specs.Lines.{is_step}
 use Rattle.tty_base.specs.declared.lines.LineStep.{LineStep}
 use Rattle.tty_calls.specs.declared.answers.Denied.{Denied}

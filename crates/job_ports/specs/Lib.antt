@@ -1,3 +1,4 @@
 pub mod Ports
 pub mod Callers
 pub mod Between
+pub mod Walked

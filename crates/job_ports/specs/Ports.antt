@@ -1,5 +1,6 @@
 -- A port of a session of processes that was played, whatever session its callers' calls are found to make.
 use Rattle.std.specs.Prelude.{◌≡◌, ◌≢◌, ◌≤◌, ◌<◌, ℕ, List, [], ◌++◌, All, Some, length, slice_get}
+use Rattle.tty_base.specs.Sizes.{MOST_ENTRIES}
 use Rattle.tty_base.specs.declared.characters.Flagged.{Flagged}
 use Rattle.word_ring.specs.Ends.{PutterState}
 use Rattle.uart_line.specs.LineState.{LineState}
@@ -46,7 +47,7 @@ all_passed session log p journal = passings_on session log p ++ begun_in session
 -- a port with its own log, its run and its end
 pub record IsPortPlayed (p : ℕ) (session : JobsSession) (log : JobLog) (run : PortRun) (end : PortEnd) : Type 0 where
   pub within : ArePassingsWithin (all_passed session log p run.journal.items)
-  pub none_begun : length run.journal.items ≢ 4194304 → begun_in session log p run.journal.items ≡ []
+  pub none_begun : length run.journal.items ≢ MOST_ENTRIES → begun_in session log p run.journal.items ≡ []
   pub each : (played : PlainSession)
       → IsPlayedWith (by_blocks session) p (all_passed session log p run.journal.items) played
       → IsJobPlayedOn p session played log run end

@@ -4,6 +4,7 @@
 
 mod laws;
 mod opening;
+mod passing;
 mod phases;
 mod ports;
 mod running;

@@ -1,10 +1,10 @@
 //! The desk of a port at its opening: its processes, and which of them its callers are.
 
-ghost use Rattle.std.specs.Prelude.{◌≡◌, ◌++◌, ◌<◌, ◌≤◌, ◌==◌, [], ◌∷◌, Some};
-ghost use Rattle.std.specs.Prelude.{IfOk, OnOk, if◌then◌else◌, length, slice_get};
-ghost use Rattle.job_text.specs.Sessions.{proc_place, procs_on};
+ghost use Rattle.std.specs.Prelude.{◌≡◌, ◌++◌, ◌≤◌, ◌==◌, [], ◌∷◌, IfOk, OnOk, if◌then◌else◌, length};
+ghost use Rattle.tty_calls.specs.Sessions.{number_in};
+ghost use Rattle.job_text.specs.Sessions.{procs_on};
 ghost use Rattle.job_ports.specs.Between.{IsDeskOpened};
-ghost use Rattle.job_ports.specs.Callers.{AreCallers, caller_of};
+ghost use Rattle.job_ports.specs.Callers.{AreCallers, MOST_PROCS, StandOnce, with_proc};
 
 use job_control::{Jobs, Proc};
 use job_one::Desk;
@@ -20,7 +20,8 @@ pub(crate) fn open_desk(
     number: u8,
     names: &Names,
 ) -> Result<Desk, NoMemory>
-    requires { length (procs_on number session.now.procs.items) ≤ 1024 }
+    requires few { length (procs_on number session.now.procs.items) ≤ MOST_PROCS }
+    requires once { StandOnce names.now }
     ensures opened { IfOk result
         (λ desk. IsDeskOpened number (procs_on number session.now.procs.items) desk.callers desk) }
     ensures callers { IfOk result
@@ -55,41 +56,28 @@ fn add_proc(found: &mut Vec<Proc>, proc: &PortProc, port: u8) -> Result<(), NoMe
     Ok(())
 }
 
-/// The process of each caller, by its place.
+/// The process of each caller, by its place; of several of one name the first.
 fn callers_of(alloc: Global, procs: &[Proc], names: &Names) -> Result<Vec<u16>, NoMemory>
-    requires { length procs.now ≤ 1024 }
+    requires few { length procs.now ≤ MOST_PROCS }
+    requires once { StandOnce names.now }
     ensures { IfOk result (λ callers. AreCallers procs.now names.now (length names.now) callers.items) }
 {
-    let mut callers = Vec::new(alloc);
-    for number in 0..names.len() {
-        callers.push(caller_at(procs, names, number))?;
+    let mut callers = vec![in alloc; procs.len() as u16; names.len()]?;
+    let mut left = procs.len();
+    while left > 0 {
+        left -= 1;
+        note_proc(callers.as_mut_slice(), names, &procs[left], left as u16);
     }
     Ok(callers)
 }
 
-fn caller_at(procs: &[Proc], names: &Names, number: usize) -> u16
-    requires { length procs.now ≤ 1024 }
-    ensures { result ≡ caller_of procs.now (slice_get names.now number) }
+/// Notes the place of a process, where it is a caller's.
+fn note_proc(callers: &mut [u16], names: &Names, proc: &Proc, place: u16)
+    requires { length callers.old ≡ length names.now }
+    ensures { callers.new ≡ with_proc callers.old (number_in names.now proc.now.name.bytes) place }
 {
-    match names.name(number) {
-        None => procs.len() as u16,
-        Some(name) => place_of(procs, name.as_bytes()),
+    match names.number(&proc.name) {
+        None => {}
+        Some(number) => callers[number] = place,
     }
-}
-
-/// The place of a process by its name, or past the last.
-fn place_of(procs: &[Proc], name: &[u8]) -> u16
-    requires { length procs.now ≤ 1024 }
-    ensures { result ≡ caller_of procs.now (Some name.now) }
-{
-    match first_named(procs, name) {
-        None => procs.len() as u16,
-        Some(place) => place as u16,
-    }
-}
-
-fn first_named(procs: &[Proc], name: &[u8]) -> Option<usize>
-    ensures place { result ≡ proc_place procs.now name.now }
-{
-    procs.iter().position(|proc| proc.name.as_bytes() == name)
 }

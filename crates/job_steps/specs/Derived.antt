@@ -1,9 +1,10 @@
 -- The session that the ports were played: the calls that were passed down, and the hangups of processes that ended.
-use Rattle.std.specs.Prelude.{ℕ, ◌==◌, Option, Some, List, [], ◌∷◌, map, filter, flat_map}
+use Rattle.std.specs.Prelude.{ℕ, ◌+◌, ◌≤◌, ◌<◌, ◌==◌, Option, Some, List, [], ◌∷◌, map, filter, flat_map}
+use Rattle.std.specs.Prelude.{length, take, slice_get}
 use Rattle.tty_calls.specs.Plain.{PlainCall, hangs_up}
 use Rattle.tty_calls.specs.Sessions.{PlainSession}
 use Rattle.passed_calls.specs.Blocks.{names_on}
-use Rattle.passed_calls.specs.Scripts.{CallerScript, plain, numbered_call}
+use Rattle.passed_calls.specs.Scripts.{CallerScript, plain, calls_named, numbered_call}
 use Rattle.passed_calls.specs.Derived.{Passing, BlockPhase, passed_phases}
 use Rattle.job_text.specs.Events.{JobEvent, own, passed, passed_down, sent, JobLog, events_on}
 use Rattle.job_text.specs.Sessions.{JobCall, JobsSession, block_phase_of, blocks_in}
@@ -16,6 +17,17 @@ scripts_over p session = flat_map (λ phase. filter (λ s. s.port == p) phase.ca
 
 abbrev pub job_call_at : ℕ → JobsSession → (caller step : ℕ) → Option JobCall
 job_call_at p session c step = numbered_call (names_on p (blocks_in session)) (scripts_over p session) c step
+
+-- how many calls a caller of a port has before phase k, which is its first step there
+abbrev pub steps_before : ℕ → JobsSession → (k c : ℕ) → ℕ
+steps_before p session k c =
+    length (calls_named (slice_get (names_on p (blocks_in session)) c)
+    (scripts_over p (record session { phases = take k session.phases })))
+
+-- the step of a caller is of one of its calls in phase k
+pub record IsStepIn (p : ℕ) (session : JobsSession) (k c step : ℕ) : Type 0 where
+  pub from : steps_before p session k c ≤ step
+  pub to : step < steps_before p session (k + 1) c
 
 abbrev pub plain_call : Option JobCall → List PlainCall
 plain_call (Some (plain call)) = call ∷ []

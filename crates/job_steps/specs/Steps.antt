@@ -13,7 +13,7 @@ use Rattle.tty_calls.specs.Plain.{PlainCall, reads, writes, sets_modes, sets_dis
 use Rattle.tty_calls.specs.Plain.{drains, hangs_up, handle_of, PlainAnswer, done, PlainEntry, is_caller}
 use Rattle.handle_table.specs.declared.HandleState.{HandleState}
 use Rattle.handle_table.specs.Handles.{is_live}
-use Rattle.tty_terminal.specs.Terminals.{Terminal, handle_at}
+use Rattle.tty_terminal.specs.Terminals.{Terminal, caller_at, handle_at, has_begun}
 use Rattle.tty_terminal.specs.Outcomes.{may_read, may_write}
 use Rattle.tty_terminal.specs.Runs.{is_of_call}
 use Rattle.job_control.specs.declared.processes.Proc.{Proc}
@@ -39,7 +39,7 @@ use Rattle.passed_calls.specs.Scripts.{plain, further}
 use Rattle.job_text.specs.declared.calls.OwnCall.TheVariants as call
 use Rattle.job_text.specs.Events.{JobEvent, own, passed, passed_down, sent, JobLog}
 use Rattle.job_text.specs.Sessions.{JobCall, JobsSession, blocks_in, proc_place}
-use Rattle.job_steps.specs.Derived.{job_call_at}
+use Rattle.job_steps.specs.Derived.{IsStepIn, job_call_at}
 
 -- ---- the state of a port beside its terminal
 
@@ -238,9 +238,12 @@ abbrev pub OwnAnswer : JobState → Terminal → (p c : ℕ) → Option JobCall 
 OwnAnswer jobs t p c None answer = ⊥
 OwnAnswer jobs t p c (Some call) answer = IsTrue (is_own jobs t p call) × (answer ≡ (outcome_of jobs t p c call).answer)
 
+-- in the phase that runs, by a caller that has begun no call of the port
 pub record IsOwn (port : Port) (s : JobsState) (at c step : ℕ) (answer : JobAnswer) : Type 0 where
   pub nothing_due : s.due ≡ []
   pub next : step ≡ next_of s c
+  pub in_phase : IsStepIn port.number port.session (terminal_at port.journal at).phase c step
+  pub between : has_begun (caller_at (terminal_at port.journal at) c) ≡ false
   pub answers : OwnAnswer s.now.jobs (terminal_at port.journal at) (proc_of port c) c (next_call port s c) answer
 
 -- an entry of a caller's call of this step
@@ -257,17 +260,28 @@ GoesOn port s place c (Some (plain call)) =
     judged_call (jobs_before port s place) (terminal_at port.journal place) (proc_of port c) call ≡ Pass
 GoesOn port s place c other = ⊥
 
+-- an entry of a call by its step in the journal is of this call
+abbrev pub IsOfCall : Port → (c step : ℕ) → Option JobCall → Type 0
+IsOfCall port c step (Some (plain call)) = port.journal.calls c step ≡ Some call
+IsOfCall port c step other = ⊥
+
+-- in the phase that runs; and each answer is logged once, right behind its entry, which is of this call
 pub record IsPassed (port : Port) (s : JobsState) (at c step : ℕ) (answer : PlainAnswer) : Type 0 where
   pub nothing_due : s.due ≡ []
   pub next : step ≡ next_of s c
+  pub in_phase : IsStepIn port.number port.session (terminal_at port.journal at).phase c step
   pub entry : IsAnswerAt port.journal c at answer
+  pub at_once : s.now.at < at
+  pub of_call : IsOfCall port c entry.entry.step (next_call port s c)
   pub goes_on : GoesOn port s (first_place port.journal c entry.entry.step) c (next_call port s c)
 
--- the hangup of a process that ended, which is the first that is due
+-- the hangup of a process that ended, which is the first that is due: the port's next entry answers it
 pub record IsPassedDown (port : Port) (s : JobsState) (at c h : ℕ) : Type 0 where
   pub rest : List JobEvent
   pub is_due : s.due ≡ passed_down c h ∷ rest
   pub entry : IsAnswerAt port.journal c at done
+  pub at_once : at ≡ s.now.at + 1
+  pub of_call : port.journal.calls c entry.entry.step ≡ Some (hangs_up h)
 
 -- a signal of the port by its name in job control
 abbrev pub job_signal : Signal → JobSignal
@@ -287,10 +301,10 @@ pub record IsRaised (port : Port) (s : JobsState) (at : ℕ) (signal : JobSignal
   pub fresh : length (raised_at port.journal (at - 1)) ≤ s.signals
   pub goes_to : target ≡ foreground_target s.now.jobs
 
--- the first that is due, or a signal of the port
+-- the first that is due, at once, or a signal of the port
 abbrev pub IsSent : Port → JobsState → (at : ℕ) → JobSignal → Target → List JobEvent → Type 0
 IsSent port s at signal target [] = IsRaised port s at signal target
-IsSent port s at signal target (e ∷ rest) = sent signal target ≡ e
+IsSent port s at signal target (e ∷ rest) = (sent signal target ≡ e) × (at ≡ s.now.at)
 
 abbrev pub IsAllowed : Port → JobsState → (at : ℕ) → JobEvent → Type 0
 IsAllowed port s at (own c step answer) = IsOwn port s at c step answer

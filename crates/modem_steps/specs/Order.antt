@@ -4,13 +4,14 @@ use Rattle.std.specs.Prelude.{None, Some, List, [], ◌∷◌, length, slice_get
 use Rattle.tty_base.specs.declared.lines.Overrun.{Overrun}
 use Rattle.tty_calls.specs.declared.journals.Who.{Who}
 use Rattle.tty_calls.specs.declared.journals.Who.TheVariants.{Caller, Flusher, Clock, Session}
-use Rattle.tty_calls.specs.Plain.{PlainEvent, answered, parted, waited, flushed, ticked, line_ended}
+use Rattle.tty_calls.specs.Plain.{PlainCall, PlainEvent, answered, parted, waited, flushed, ticked, line_ended}
 use Rattle.tty_calls.specs.Plain.{clock_ended, caller_ended, phase_ended, hung_up, PlainEntry}
 use Rattle.tty_calls.specs.Sessions.{PlainSession, call_at}
 use Rattle.tty_terminal.specs.Terminals.{Terminal, caller_at}
 use Rattle.tty_terminal.specs.Steps.{nothing_to_flush}
 use Rattle.one_thread.specs.Order.{must_wait, is_waiting, Place, turn, first_place}
 use Rattle.one_thread.specs.Order.{next_place, place_after, IsPieceOf, AllSeeAll}
+use Rattle.modem_lines.specs.Lines.{Lines}
 use Rattle.passed_calls.specs.Journals.{terminal_at}
 use Rattle.passed_calls.specs.Logs.{logged_on}
 use Rattle.passed_calls.specs.Scripts.{plain, further}
@@ -27,17 +28,21 @@ pub data Turn : Type 0 where
   sets_pin : Turn
   is_told : (caller : ℕ) → Turn
 
--- a caller's open waits for the carrier
-abbrev pub open_is_held : Port → ModemState → Terminal → ℕ → Bool
-open_is_held port s t c = not (caller_at t c).over && waits_for_carrier s.lines t (next_call port s c)
+-- a caller that is not over, and whose next call is an open that waits for the carrier
+abbrev pub is_held_with : Lines → Terminal → Option ModemCall → ℕ → Bool
+is_held_with lines t call c = not (caller_at t c).over && waits_for_carrier lines t call
 
--- a caller that is not over, and does not wait, or need not wait any more
-abbrev pub can_go_on : Port → ModemState → Terminal → ℕ → Bool
-can_go_on port s t c =
+-- one that is not over, and does not wait with its next call, or need not wait any more
+abbrev pub goes_on_with : Lines → (calls : ℕ → ℕ → Option PlainCall) → Terminal → Option ModemCall → ℕ → Bool
+goes_on_with lines calls t call c =
     not (caller_at t c).over
-    && (if is_waiting t c
-    then not (must_wait port.journal.calls t c)
-    else not (waits_for_carrier s.lines t (next_call port s c)))
+    && (if is_waiting t c then not (must_wait calls t c) else not (waits_for_carrier lines t call))
+
+abbrev pub open_is_held : Port → ModemState → Terminal → ℕ → Bool
+open_is_held port s t c = is_held_with s.lines t (next_call port s t c) c
+
+abbrev pub can_go_on : Port → ModemState → Terminal → ℕ → Bool
+can_go_on port s t c = goes_on_with s.lines port.journal.calls t (next_call port s t c) c
 
 -- an item of the modem block of this phase is left
 abbrev pub is_of_phase : ℕ → Option Item → Bool
@@ -52,16 +57,21 @@ abbrev pub first_such : (ℕ → Bool) → (ℕ → Turn) → List ℕ → Turn 
 first_such is_such turn_of [] other = other
 first_such is_such turn_of (c ∷ cs) other = if is_such c then turn_of c else first_such is_such turn_of cs other
 
--- what comes where no caller can go on: the next item, the end of `carrier`, the clock, an open that waits in vain, a
--- call that waits in vain, and the end of the phase
+-- what comes where nothing else is left: the clock, an open that waits in vain, a call that waits in vain, and the end
+-- of the phase
+abbrev pub turn_in_vain : Port → ModemState → Terminal → List ℕ → Turn
+turn_in_vain port s t callers =
+    if not t.clock_over then goes_on Clock
+    else first_such (open_is_held port s t) is_told callers
+    (first_such (is_waiting t) (λ c. goes_on (Caller c)) callers (goes_on Session))
+
+-- what comes where no caller can go on: the next item, the end of `carrier`, or what comes in vain
 abbrev pub turn_of_others : Port → ModemState → Terminal → List ℕ → Turn
 turn_of_others port s t callers =
     if has_item port s t then sets_pin
     else if not (caller_at t (carrier_on port.number port.session)).over then goes_on
     (Caller (carrier_on port.number port.session))
-    else if not t.clock_over then goes_on Clock
-    else first_such (open_is_held port s t) is_told callers
-    (first_such (is_waiting t) (λ c. goes_on (Caller c)) callers (goes_on Session))
+    else turn_in_vain port s t callers
 
 -- the hangup that is due, else a flush, else the first caller in the text's order that can go on, else the others
 abbrev pub turn_by_rank : Port → ModemState → Terminal → Turn
@@ -124,7 +134,8 @@ own_turn (Some (further call)) c = goes_on (Caller c)
 -- an event that no entry tells of, in its turn
 abbrev pub IsEventInTurn : PlainSession → Port → ModemState → Place → ModemEvent → Type 0
 IsEventInTurn played port s place (pin_set pin up) = modem_turn played port s place ≡ sets_pin
-IsEventInTurn played port s place (own c step answer) = modem_turn played port s place ≡ own_turn (next_call port s c) c
+IsEventInTurn played port s place (own c step answer) =
+    modem_turn played port s place ≡ own_turn (next_call port s place.terminal c) c
 IsEventInTurn played port s place (passed c step answer) = Unit {0}
 IsEventInTurn played port s place (carrier_lost h) = Unit {0}
 
@@ -138,10 +149,13 @@ AreEventsInTurn played port s (l ∷ log) =
     IsEventInTurn played port s (place_at played port l.at) l.event
     × AreEventsInTurn played port (after_event port s l.at l.event) log
 
--- a port's journal, with the overruns of its line, and the log beside it
+-- a port's journal and the log beside it, in the session that was played
+pub record AreInModemTurn (played : PlainSession) (port : Port) (log : ModemLog) : Type 0 where
+  pub entries : AreEntriesInTurn played port (logged_on port.number log) (first_place port.number played) 0
+      port.journal.entries
+  pub events : AreEventsInTurn played port (first_state port.number port.session) (logged_on port.number log)
+
+-- .. with the overruns of its line
 pub record IsInModemOrder (port : Port) (log : ModemLog) (overruns : List Overrun) : Type 0 where
-  pub entries : AreEntriesInTurn (derived port.session log) port (logged_on port.number log)
-      (first_place port.number (derived port.session log)) 0 port.journal.entries
+  pub turns : AreInModemTurn (derived port.session log) port log
   pub seen : AllSeeAll port.number (derived port.session log) port.journal.entries overruns
-  pub events : AreEventsInTurn (derived port.session log) port (first_state port.number port.session)
-      (logged_on port.number log)

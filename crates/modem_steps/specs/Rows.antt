@@ -178,6 +178,16 @@ asked_early =
     ∷ logged 6 (own 0 4 (number_is 8))
     ∷ []
 
+-- the register is asked in the phase before that of the call
+abbrev pub asked_in_other_phase : ModemLog
+asked_in_other_phase =
+    logged 2 (passed 0 0 done)
+    ∷ logged 2 (own 0 1 done)
+    ∷ logged 2 (own 0 2 (number_is 1))
+    ∷ logged 2 (own 0 3 (number_is 6))
+    ∷ logged 2 (own 0 4 (number_is 0))
+    ∷ []
+
 -- the port is hung up although CLOCAL is set
 abbrev pub hung_up_under_clocal : ModemLog
 hung_up_under_clocal =
@@ -228,6 +238,15 @@ no_carrier_journal =
 abbrev pub given_up_early : ModemLog
 given_up_early = logged 2 (own 0 0 idle) ∷ []
 
+-- ---- an open waits for no carrier before its phase
+
+abbrev pub later_open : ModemSession
+later_open =
+    session_with (phase_with [] (further (call.Mget 0) ∷ []) ∷ phase_with [] (plain (opens 0 Rw false) ∷ []) ∷ [])
+
+abbrev pub later_open_log : ModemLog
+later_open_log = logged 1 (own 0 0 (refused EBADF)) ∷ []
+
 -- the state of a port after these events
 abbrev pub state_after : Port → ModemState → ModemLog → ModemState
 state_after port s [] = s
@@ -238,6 +257,12 @@ dial_in_port = port_of dial_in dial_in_log dial_in_journal
 
 abbrev pub dial_in_state : (events : ℕ) → ModemState
 dial_in_state n = state_after dial_in_port (first_state 0 dial_in) (take n dial_in_log)
+
+abbrev pub later_open_port : Port
+later_open_port = port_of later_open later_open_log (whole Line 0 0 (line_ended 0) ∷ [])
+
+abbrev pub later_open_state : ModemState
+later_open_state = state_after later_open_port (first_state 0 later_open) later_open_log
 
 abbrev pub no_carrier_port : Port
 no_carrier_port = port_of no_carrier no_carrier_log no_carrier_journal

@@ -1,5 +1,5 @@
 -- The step of a port with modem lines: which event may be logged next, and what it does.
-use Rattle.std.specs.Prelude.{◌≡◌, ℕ, ◌+◌, ◌-◌, ◌==◌, ◌≤◌, nat_lt, Bool, false, not, ◌&&◌, ◌||◌, IsTrue}
+use Rattle.std.specs.Prelude.{◌≡◌, ℕ, ◌+◌, ◌-◌, ◌==◌, ◌≤◌, ◌<◌, nat_lt, Bool, false, not, ◌&&◌, ◌||◌, IsTrue}
 use Rattle.std.specs.Prelude.{Option, None, Some, is_some, List, [], ◌∷◌, ◌++◌, map, filter, length}
 use Rattle.std.specs.Prelude.{position, replicate, slice_get, slice_index_or, slice_set, if◌then◌else◌}
 use Rattle.std.specs.List.{list_all}
@@ -21,7 +21,7 @@ use Rattle.modem_text.specs.declared.items.OwnCall.{OwnCall}
 use Rattle.modem_text.specs.declared.items.OwnCall.TheVariants as call
 use Rattle.modem_text.specs.Events.{ModemEvent, pin_set, own, passed, carrier_lost, ModemLog}
 use Rattle.modem_text.specs.Sessions.{ModemCall, PinStep, ModemPhase, ModemSession, pins_on, blocks_in}
-use Rattle.modem_steps.specs.Derived.{carrier_on, modem_call_at}
+use Rattle.modem_steps.specs.Derived.{carrier_on, call_in_phase}
 
 -- ---- the state of a port beside its terminal
 
@@ -128,8 +128,9 @@ pub record Port : Type 0 where
   pub session : ModemSession
   pub journal : Journal
 
-abbrev pub next_call : Port → ModemState → ℕ → Option ModemCall
-next_call port s c = modem_call_at port.number port.session c (next_of s c)
+-- the next call of a caller in the phase that runs, where it has one more there
+abbrev pub next_call : Port → ModemState → Terminal → ℕ → Option ModemCall
+next_call port s t c = call_in_phase port.number port.session t.phase c (next_of s c)
 
 -- ---- an open that is told that no carrier comes
 
@@ -144,7 +145,7 @@ abbrev pub is_held_up : Port → ModemState → Terminal → ℕ → Bool
 is_held_up port s t c =
     (caller_at t c).over
     || (is_waiting t c && must_wait port.journal.calls t c)
-    || waits_for_carrier s.lines t (next_call port s c)
+    || waits_for_carrier s.lines t (next_call port s t c)
 
 -- line, clock and modem block are over, nothing can be flushed, and each other caller is held up
 abbrev pub nobody_goes_on : Port → ModemState → Terminal → ℕ → Bool
@@ -188,24 +189,28 @@ OwnAnswer port s t c (Some (further call)) answer =
 pub record IsOwn (port : Port) (s : ModemState) (t : Terminal) (c step : ℕ) (answer : PlainAnswer) : Type 0 where
   pub nothing_due : s.due ≡ []
   pub next : step ≡ next_of s c
-  pub answers : OwnAnswer port s t c (next_call port s c) answer
+  pub answers : OwnAnswer port s t c (next_call port s t c) answer
 
 -- what the port is passed: a call that is for it, and no open that waits for the carrier when it is answered
 abbrev pub IsPlain : Option ModemCall → Type 0
 IsPlain (Some (plain call)) = Unit {0}
 IsPlain other = ⊥
 
+-- The answer is logged before anything else comes, so that the lines are those with which the call went on.
 pub record IsPassed (port : Port) (s : ModemState) (at c step : ℕ) (answer : PlainAnswer) : Type 0 where
   pub nothing_due : s.due ≡ []
   pub next : step ≡ next_of s c
-  pub for_port : IsPlain (next_call port s c)
+  pub for_port : IsPlain (next_call port s (terminal_at port.journal at) c)
   pub entry : IsAnswerAt port.journal c at answer
-  pub not_held_up : waits_for_carrier s.lines (terminal_at port.journal (at - 1)) (next_call port s c) ≡ false
+  pub at_once : s.at < at
+  pub not_held_up : waits_for_carrier s.lines (terminal_at port.journal (at - 1))
+      (next_call port s (terminal_at port.journal at) c) ≡ false
 
 -- the hangup that is due
 pub record IsLoss (port : Port) (s : ModemState) (at h : ℕ) : Type 0 where
   pub is_due : s.due ≡ h ∷ []
   pub entry : IsAnswerAt port.journal (carrier_on port.number port.session) at done
+  pub at_once : at ≡ s.at + 1
 
 abbrev pub IsAllowed : Port → ModemState → (at : ℕ) → ModemEvent → Type 0
 IsAllowed port s at (pin_set pin up) = IsPin port s (terminal_at port.journal at) pin up
@@ -230,13 +235,14 @@ after_event port s at (pin_set pin up) =
     }
 after_event port s at (own c step answer) =
     record (answered_for s c) {
-      lines = lines_after_own s.lines (terminal_at port.journal at) (next_call port s c);
+      lines = lines_after_own s.lines (terminal_at port.journal at)
+          (next_call port s (terminal_at port.journal at) c);
       at = at;
     }
 after_event port s at (passed c step answer) =
     record (answered_for s c) {
       lines = lines_after_answer s.lines (live_count (terminal_at port.journal (at - 1)))
-          (live_count (terminal_at port.journal at)) (next_call port s c) answer;
+          (live_count (terminal_at port.journal at)) (next_call port s (terminal_at port.journal at) c) answer;
       at = at;
     }
 after_event port s at (carrier_lost h) = record s { lines = after_shut s.lines; at = at; due = [] }

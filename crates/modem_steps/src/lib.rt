@@ -12,6 +12,7 @@ ghost use Rattle.modem_steps.specs.Rows.{hung_up_under_clocal, told_twice, given
 ghost use Rattle.modem_steps.specs.Rows.{dial_in_log, dial_in_played, dial_in_journal, local_line};
 ghost use Rattle.modem_steps.specs.Rows.{local_line_log, local_line_played, local_line_journal, no_carrier};
 ghost use Rattle.modem_steps.specs.Rows.{no_carrier_log, no_carrier_played, no_carrier_journal};
+ghost use Rattle.modem_steps.specs.Rows.{asked_in_other_phase, later_open_port, later_open_state};
 ghost use Rattle.modem_steps.specs.Rows.{dial_in_port, dial_in_state, no_carrier_port, no_carrier_state};
 
 /// A law: an open waits for the carrier, and who reads is hung up where it is lost.
@@ -33,7 +34,8 @@ pub fn no_carrier()
 {}
 
 /// A law: a log is none of the port where an open goes on without a carrier, a lost carrier hangs nothing up, or
-/// hangs up under CLOCAL, the lines are told otherwise, a change is told twice, or an open is given up too early.
+/// hangs up under CLOCAL, the lines are told otherwise, a change is told twice, a call is answered in another phase than
+/// its own, or an open is given up too early.
 pub fn wrong_logs_are_none()
     ensures opened_early { IsModemRun (port_of dial_in opened_early dial_in_journal) opened_early → ⊥ }
     ensures not_hung_up { IsModemRun (port_of dial_in not_hung_up dial_in_journal) not_hung_up → ⊥ }
@@ -41,10 +43,13 @@ pub fn wrong_logs_are_none()
     ensures under_clocal { IsModemRun (port_of local_line hung_up_under_clocal local_line_journal) hung_up_under_clocal
         → ⊥ }
     ensures told_twice { IsModemRun (port_of local_line told_twice local_line_journal) told_twice → ⊥ }
+    ensures other_phase { IsModemRun (port_of local_line asked_in_other_phase local_line_journal) asked_in_other_phase
+        → ⊥ }
     ensures given_up { IsModemRun (port_of no_carrier given_up_early no_carrier_journal) given_up_early → ⊥ }
 {}
 
-/// A law: whose turn it is while a call comes in, and where no carrier comes.
+/// A law: whose turn it is while a call comes in, and where no carrier comes; and that an open of a later phase waits
+/// for nothing.
 pub fn turns_of_an_open()
     ensures item_first { turn_at dial_in_port (dial_in_state 0) 1 ≡ sets_pin }
     ensures then_open { turn_at dial_in_port (dial_in_state 1) 1 ≡ goes_on (Caller 0) }
@@ -57,6 +62,7 @@ pub fn turns_of_an_open()
     ensures reader { turn_at dial_in_port (dial_in_state 5) 9 ≡ goes_on (Caller 0) }
     ensures in_vain { turn_at no_carrier_port (no_carrier_state 0) 3 ≡ is_told 0 }
     ensures goes_on { turn_at no_carrier_port (no_carrier_state 1) 3 ≡ goes_on (Caller 0) }
+    ensures later { turn_at later_open_port later_open_state 1 ≡ goes_on (Caller 0) }
 {}
 
 /// A law: worked logs are in the order of one thread, and a log is not where a call is answered before the line's end.

@@ -1,16 +1,15 @@
 -- What a port that agrees with a session tells of its callers' next calls.
-use Rattle.std.proofs.Common.{◌≡◌, ◌<◌, ◌≤◌, ℕ, ◌+◌, ◌-◌, suc, zero, List, [], ◌∷◌, ◌++◌, IsTrue}
-use Rattle.std.proofs.Common.{Option, None, Some, length, get_or, refl, sym, ◌∙◌, ap, subst, arith}
+use Rattle.std.proofs.Common.{◌≡◌, ◌<◌, ◌≤◌, ℕ, ◌+◌, ◌-◌, suc, zero, List, [], ◌∷◌, ◌++◌}
+use Rattle.std.proofs.Common.{None, Some, length, get_or, refl, sym, ◌∙◌, ap, subst, arith}
 use Rattle.std.specs.Prelude.{slice_get, sum}
 use Rattle.std.proofs.lemmas.Option.{slice_get-get_or}
 use Rattle.tty_calls.specs.declared.sessions.Script.{Script}
 use Rattle.tty_calls.specs.declared.journals.Who.{Who}
-use Rattle.tty_calls.specs.declared.journals.Who.TheVariants.{Caller}
-use Rattle.tty_calls.specs.Plain.{PlainCall, PlainEvent, PlainEntry}
+use Rattle.tty_calls.specs.Plain.{PlainCall, PlainEntry}
 use Rattle.tty_calls.specs.Sessions.{PlainSession, call_at, counts_on}
 use Rattle.tty_terminal.specs.Terminals.{opening, caller_at}
-use Rattle.tty_terminal.specs.Runs.{Grows, phase_after, is_of_call}
-use Rattle.journal_check.specs.Legal.{IsInPhase, AreInPhases, first_step, steps_in, flip_on}
+use Rattle.tty_terminal.specs.Runs.{Grows, phase_after}
+use Rattle.journal_check.specs.Legal.{IsInPhase, AreInPhases, flip_on}
 use Rattle.port_core.specs.Ports.{PortValue, call_in, end_entry}
 use Rattle.one_thread.specs.Roles.{Scene, calls_in}
 use Rattle.one_thread.specs.Turns.{PlaysIn, IsNextCall, standing_at}

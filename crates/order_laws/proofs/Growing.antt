@@ -1,6 +1,6 @@
 -- A journal of a session is one of each session that grew out of it.
-use Rattle.std.proofs.Common.{◌≡◌, ◌≤◌, ◌<◌, ◌⊎◌, inl, inr, ℕ, ◌+◌, List, [], ◌∷◌, Bool, true}
-use Rattle.std.proofs.Common.{false, not, ◌&&◌, ◌||◌, ◌==◌, Option, None, Some, is_some}
+use Rattle.std.proofs.Common.{◌≡◌, ◌≤◌, ◌<◌, ◌⊎◌, inl, inr, ℕ, List, [], ◌∷◌, Bool, true}
+use Rattle.std.proofs.Common.{false, not, ◌&&◌, ◌||◌, ◌==◌, Option, None, Some}
 use Rattle.std.proofs.Common.{if◌then◌else◌, length, sum, refl, sym, ◌∙◌, ap, subst, arith}
 use Rattle.std.proofs.lemmas.Bool.{false≢true, eq-eqb}
 use Rattle.std.specs.Prelude.{IsTrue, MatchBool, nat_le, slice_index, slice_index_or}
@@ -12,19 +12,19 @@ use Rattle.tty_calls.specs.Plain.{clock_ended, caller_ended, phase_ended, hung_u
 use Rattle.tty_calls.specs.Sessions.{PlainSession, call_at, counts_on}
 use Rattle.tty_terminal.specs.Terminals.{Terminal, opening, caller_at}
 use Rattle.tty_terminal.specs.Calls.{outcome_of}
-use Rattle.tty_terminal.specs.Steps.{IsAllowed, Allowed, after, nothing_to_flush, is_wait}
+use Rattle.tty_terminal.specs.Steps.{Allowed, after, nothing_to_flush, is_wait}
 use Rattle.tty_terminal.specs.Standing.{Standing, standing_of, standing_after}
 use Rattle.tty_terminal.specs.Standing.{standing_after_own, standing_after_other, standing_in}
-use Rattle.tty_terminal.specs.Runs.{IsRun, Leads, Grows, phase_after, is_of_call}
+use Rattle.tty_terminal.specs.Runs.{IsRun, Leads, Grows, phase_after}
 use Rattle.tty_terminal.proofs.Grown.{after_grown, leads_grown}
 use Rattle.tty_terminal.proofs.StandingLaws.{step_stands, leads_stands}
-use Rattle.journal_check.specs.Legal.{IsInPhase, AreInPhases, IsCallerOf, IsCallOf}
-use Rattle.journal_check.specs.Legal.{is_caller_end, first_step, steps_in, flip_on}
+use Rattle.journal_check.specs.Legal.{IsInPhase, AreInPhases}
+use Rattle.journal_check.specs.Legal.{is_caller_end, steps_in, flip_on}
 use Rattle.journal_check.proofs.PhaseLemmas.{phase-after}
 use Rattle.journal_check.proofs.Truths.{if_true}
-use Rattle.one_thread.specs.Order.{Place, first_place, next_place, AreInTurn, IsInTurn, IsPieceOf, is_most}
+use Rattle.one_thread.specs.Order.{Place, first_place, next_place, AreInTurn, IsPieceOf, is_most}
 use Rattle.one_thread.specs.Order.{is_after_flush, front_to_flush, due, turn, turn_after, turn_by_rank, is_of_consoles}
-use Rattle.one_thread.specs.Order.{callers_of, cuts_in, cuts_flushed, first_of, can_go_on, is_waiting, must_wait}
+use Rattle.one_thread.specs.Order.{callers_of, cuts_flushed, first_of, can_go_on, is_waiting, must_wait}
 use Rattle.one_thread.proofs.Places.{phase_from, leads_phase}
 use Rattle.one_thread.proofs.Ranks.{first_same}
 use Rattle.order_laws.specs.Growth.{HasShape, Grew, KeepsEnded}
@@ -44,49 +44,60 @@ can_case : (waits over x y : Bool)
 can_case false over x y h = refl
 can_case true over x y h = ap (λ (z : Bool). not over && (not true || not z)) (h refl)
 
-can_same : (p : ℕ) (session later : PlainSession) (t : Terminal) (c : ℕ)
+-- the calls of those who wait are the same
+abbrev pub WaitAlike : ℕ → (session later : PlainSession) → Terminal → Type 0
+WaitAlike p session later t =
+    (c : ℕ)
+    → is_waiting t c ≡ true
+    → call_at p session c (caller_at t c).next ≡ call_at p later c (caller_at t c).next
+
+pair_waits : (p : ℕ) (session later : PlainSession) (t : Terminal)
     → Pair p session later
     → KnowsAll (call_at p session) t
-    → can_go_on (call_at p session) t c ≡ can_go_on (call_at p later) t c
-can_same p session later t c pair knows =
-    can_case (is_waiting t c) (caller_at t c).over (must_wait (call_at p session) t c) (must_wait (call_at p later) t c)
-    (λ waits.
+    → WaitAlike p session later t
+pair_waits p session later t pair knows c waits =
     let known = knows c waits in
-    ap (λ (o : Option PlainCall). is_wait (outcome_of t (caller_at t c) o))
-    (known.1 ∙ sym (pair.calls c (caller_at t c).next known.0 known.1)))
+    known.1 ∙ sym (pair.calls c (caller_at t c).next known.0 known.1)
+
+can_same : (p : ℕ) (session later : PlainSession) (t : Terminal) (c : ℕ)
+    → WaitAlike p session later t
+    → can_go_on (call_at p session) t c ≡ can_go_on (call_at p later) t c
+can_same p session later t c alike =
+    can_case (is_waiting t c) (caller_at t c).over (must_wait (call_at p session) t c) (must_wait (call_at p later) t c)
+    (λ waits. ap (λ (o : Option PlainCall). is_wait (outcome_of t (caller_at t c) o)) (alike c waits))
 
 rank_same : (p : ℕ) (session later : PlainSession) (t : Terminal)
-    → Pair p session later
-    → KnowsAll (call_at p session) t
+    → HasShape p session later
+    → WaitAlike p session later t
     → turn_by_rank (is_of_consoles session) (call_at p session) (callers_of p session t.phase) t
     ≡ turn_by_rank (is_of_consoles later) (call_at p later) (callers_of p later t.phase) t
-rank_same p session later t pair knows =
+rank_same p session later t shape alike =
     let callers = callers_of p session t.phase in
     ap (λ (who : Who).
     if not (nothing_to_flush t) then Flusher else if is_of_consoles session && not t.clock_over then Clock else who)
     (first_same (can_go_on (call_at p session) t) (can_go_on (call_at p later) t) callers
     (if not t.clock_over then Clock else first_of (is_waiting t) callers Session)
-    (λ i lt. can_same p session later t (slice_index callers i) pair knows))
+    (λ i lt. can_same p session later t (slice_index callers i) alike))
     ∙ (ap (λ (cs : List ℕ). turn_by_rank (is_of_consoles session) (call_at p later) cs t)
-    (sym (callers_same p session later t.phase pair.shape))
+    (sym (callers_same p session later t.phase shape))
     ∙ ap (λ (first : Bool). turn_by_rank first (call_at p later) (callers_of p later t.phase) t)
-    (sym pair.shape.consoles))
+    (sym shape.consoles))
 
-due_same : (p : ℕ) (session later : PlainSession) (s : Place)
+pub due_same : (p : ℕ) (session later : PlainSession) (s : Place)
     → HasShape p session later
     → due p session s ≡ due p later s
 due_same p session later s shape =
     ap (λ (cuts : List (List Flagged)). front_to_flush s.terminal (slice_index_or cuts s.cuts []))
     (sym (cuts_same p session later s.terminal.phase shape))
 
-turn_same : (p : ℕ) (session later : PlainSession) (s : Place)
-    → Pair p session later
-    → KnowsAll (call_at p session) s.terminal
+pub turn_same : (p : ℕ) (session later : PlainSession) (s : Place)
+    → HasShape p session later
+    → WaitAlike p session later s.terminal
     → turn p session s ≡ turn p later s
-turn_same p session later s pair knows =
-    let phases = sym (phases_same p session later pair.shape) in
-    let taken = due_same p session later s pair.shape in
-    let rank = rank_same p session later s.terminal pair knows in
+turn_same p session later s shape alike =
+    let phases = sym (phases_same p session later shape) in
+    let taken = due_same p session later s shape in
+    let rank = rank_same p session later s.terminal shape alike in
     λ i.
     if nat_le (phases i) s.terminal.phase then Session
     else if not s.terminal.line_over then (if length (taken i) == 0 then Line else Flusher)
@@ -132,7 +143,8 @@ turns_grow : (p : ℕ) (session later : PlainSession) (s : Place) (es : List Pla
 turns_grow p session later s [] t pair knows leads turns = tt
 turns_grow p session later s (e ∷ es) t pair knows leads turns = (
   record {
-    by_turn = turns.0.by_turn ∙ turn_same p session later s pair knows;
+    by_turn = turns.0.by_turn
+        ∙ turn_same p session later s pair.shape (pair_waits p session later s.terminal pair knows);
     piece = piece_same p session later s e.part e.event pair.shape turns.0.piece;
   },
   subst (λ (next : Place). AreInTurn p later next es) (next_same p session later s e pair leads.0)
@@ -154,7 +166,7 @@ phase_grows caller_ended k = omega arith
 phase_grows phase_ended k = omega arith
 phase_grows (hung_up dropped) k = omega arith
 
-from_grows : (k : ℕ) (es : List PlainEntry) → k ≤ phase_from k es
+pub from_grows : (k : ℕ) (es : List PlainEntry) → k ≤ phase_from k es
 from_grows k [] = omega arith
 from_grows k (e ∷ es) = omega (arith, phase_grows e.event k, from_grows (phase_after e.event k) es)
 
@@ -193,7 +205,7 @@ either_over : (b : Bool) (e : PlainEntry) (k : ℕ) (q : Standing) → phase_aft
 either_over true e k q same h = own_over e.event e.generation q h
 either_over false e k q same h = other_over e.event k q same h
 
-over_stays : (c k : ℕ) (es : List PlainEntry) (q : Standing)
+pub over_stays : (c k : ℕ) (es : List PlainEntry) (q : Standing)
     → phase_from k es ≡ k
     → q.over ≡ true
     → (standing_in c es q).over ≡ true
@@ -327,7 +339,7 @@ run_grows p session later journal t pair run =
     subst (λ (n : ℕ). IsRun (call_at p later) (counts_on p later) n journal t) flip
     (subst (λ (ns : List ℕ). IsRun (call_at p later) ns (flip_on p session) journal t) counts grown)
 
-place_same : (p : ℕ) (session later : PlainSession)
+pub place_same : (p : ℕ) (session later : PlainSession)
     → HasShape p session later
     → first_place p session ≡ first_place p later
 place_same p session later shape =

@@ -1,5 +1,5 @@
 -- Each session that agrees with a port goes on to be played.
-use Rattle.std.proofs.Common.{◌≡◌, ◌<◌, ◌+◌, ℕ, Bool, None, List, ◌∷◌, [], ◌++◌, length, map, refl, sym, ◌∙◌, ap, subst}
+use Rattle.std.proofs.Common.{◌≡◌, ◌<◌, ◌+◌, ℕ, Bool, None, List, ◌∷◌, [], ◌++◌, length, map, sym, ◌∙◌, ap, subst}
 use Rattle.tty_base.specs.declared.lines.LineStep.{LineStep}
 use Rattle.uart_line.specs.LineState.{LineState}
 use Rattle.word_ring.specs.Ends.{PutterState}
@@ -27,7 +27,7 @@ use Rattle.one_thread.proofs.Possible.{by_rank}
 use Rattle.one_thread.proofs.Orders.{at_phase_in, plays_in}
 use Rattle.one_thread.proofs.AfterLine.{begins, goes_on_playing}
 use Rattle.one_thread.proofs.StationLemmas.{at_next_phase, played_phase}
-use Rattle.order_laws.specs.Agreed.{Agrees, IsLike, IsBeforeEachIn, IsBeforeEach, AreRolesOfEach}
+use Rattle.order_laws.specs.Agreed.{IsLike, IsBeforeEachIn, IsBeforeEach, AreRolesOfEach}
 use Rattle.order_laws.specs.Agreed.{PlaysEachIn, PlaysEach, EndsEachIn, EndsEach}
 use Rattle.order_laws.proofs.Agreeing.{before, before_all, next_made, none_left}
 use Rattle.order_laws.proofs.Shapes.{at_phase, phases_same}

@@ -1,5 +1,5 @@
 -- What is lost in the order of one thread, phase by phase: all that exceeds the buffer.
-use Rattle.std.proofs.Common.{◌≡◌, ◌⊎◌, inl, inr, ℕ, zero, suc, ◌+◌, ◌-◌, ◌<◌, ◌≤◌, Bool, true, false, ◌||◌}
+use Rattle.std.proofs.Common.{◌≡◌, ◌⊎◌, inl, inr, ℕ, zero, suc, ◌+◌, ◌<◌, ◌≤◌, Bool, true, false, ◌||◌}
 use Rattle.std.proofs.Common.{◌==◌, if◌then◌else◌, List, [], ◌∷◌, ◌++◌, Option, length, take, refl, sym, ◌∙◌, ap}
 use Rattle.std.proofs.Common.{subst, arith, append-nil, append_assoc, length-append, add-zero, zero-add, sum}
 use Rattle.std.specs.Prelude.{All}
@@ -12,8 +12,8 @@ use Rattle.tty_base.specs.declared.lines.Overrun.{Overrun}
 use Rattle.tty_calls.specs.declared.journals.PortRun.{PortRun}
 use Rattle.tty_calls.specs.Plain.{PlainCall, PlainEvent, answered, parted, waited, flushed, ticked, line_ended}
 use Rattle.tty_calls.specs.Plain.{clock_ended, caller_ended, phase_ended, hung_up, PlainEntry, chars_in}
-use Rattle.tty_calls.specs.Sessions.{PlainPhase, PlainSession, line_on, call_at, counts_on}
-use Rattle.uart_line.specs.Received.{received_list, script}
+use Rattle.tty_calls.specs.Sessions.{PlainPhase, PlainSession, call_at, counts_on}
+use Rattle.uart_line.specs.Received.{received_list}
 use Rattle.uart_line.specs.Offered.{kept_list_from, kept_list, AreShown}
 use Rattle.tty_terminal.specs.Terminals.{Terminal, opening}
 use Rattle.tty_terminal.specs.Steps.{IsAllowed, after}
@@ -21,10 +21,10 @@ use Rattle.tty_terminal.specs.Runs.{Leads, chars_of}
 use Rattle.tty_terminal.proofs.StepLaws.{step_does}
 use Rattle.journal_check.specs.Legal.{line_ends, line_ends_in, session_events, session_events_in, is_phase_end}
 use Rattle.journal_check.specs.Legal.{before_line_end, received_before, sent_by, script_of_first, script_on}
-use Rattle.journal_check.specs.Legal.{flip_on, IsSeen, AreSeen, IsFinishedFrom, IsLegal}
+use Rattle.journal_check.specs.Legal.{flip_on, AreSeen, IsFinishedFrom, IsLegal}
 use Rattle.journal_check.proofs.ReceiptLemmas.{none_first}
 use Rattle.journal_check.proofs.SeenLemmas.{no_phase_end}
-use Rattle.journal_check.proofs.Truths.{if_true, if_false, nothing_first, nothing_rest}
+use Rattle.journal_check.proofs.Truths.{nothing_first, nothing_rest}
 use Rattle.one_thread.specs.Order.{AllSeeAll, IsInOneOrder}
 use Rattle.one_thread.proofs.ReceivedLemmas.{script_whole, kept_later}
 use Rattle.order_laws.specs.Lost.{overruns_after, taken_before_line_end, excess, overruns_in, overruns_before}

@@ -5,38 +5,47 @@ use Rattle.std.proofs.Common.{take, drop, refl, sym, ◌∙◌, ap, subst, arith
 use Rattle.std.specs.Prelude.{nat_le, IsTrue, MatchBool, All}
 use Rattle.std.proofs.lemmas.List.{append_cancel_left, take-take, drop-drop, drop-take}
 use Rattle.std.proofs.lemmas.List.Concat.{flat_map-append}
-use Rattle.std.proofs.lemmas.Bool.{eq-eqb, le-leb, leb-false, and_parts}
+use Rattle.std.proofs.lemmas.Bool.{eq-eqb, eqb-true, false≢true, le-leb, lt-leb, leb-false, and_parts}
+use Rattle.std.proofs.lemmas.Option.{same_Some}
 use Rattle.std.proofs.lemmas.Bool.Decides.{nat_tests}
 use Rattle.tty_base.specs.declared.characters.Flagged.{Flagged}
+use Rattle.tty_base.specs.declared.lines.LineStep.{LineStep}
 use Rattle.tty_base.specs.declared.lines.Overrun.{Overrun}
+use Rattle.tty_base.specs.Lines.{arrival_count}
 use Rattle.tty_calls.specs.declared.journals.PortRun.{PortRun}
 use Rattle.tty_calls.specs.declared.journals.Who.{Who}
 use Rattle.tty_calls.specs.declared.journals.Who.TheVariants.{Caller, Flusher, Line, Clock, Session}
 use Rattle.tty_calls.specs.Plain.{PlainCall, PlainEvent, answered, parted, waited, flushed, ticked, line_ended}
 use Rattle.tty_calls.specs.Plain.{clock_ended, caller_ended, phase_ended, hung_up, PlainEntry, chars_in}
 use Rattle.tty_calls.specs.Sessions.{PlainPhase, PlainSession, line_on, ticks_on, call_at, counts_on}
-use Rattle.uart_line.specs.Received.{received_list, script}
-use Rattle.uart_line.specs.Offered.{kept_list}
+use Rattle.uart_line.specs.Received.{received_list, lost_count, script}
+use Rattle.uart_line.specs.Offered.{kept_list, AreShown}
 use Rattle.tty_terminal.specs.declared.callers.Piece.{Piece}
 use Rattle.tty_terminal.specs.Terminals.{Terminal, caller_at}
 use Rattle.tty_terminal.specs.Outcomes as outcomes
 use Rattle.tty_terminal.specs.Calls.{outcome_of}
 use Rattle.tty_terminal.specs.Steps.{follows, ByCaller, IsAllowed, Allowed, after}
-use Rattle.tty_terminal.specs.Runs.{Leads, chars_of, phase_after}
+use Rattle.tty_terminal.specs.Runs.{Leads, chars_of, phase_after, is_of_call, AgreesAt}
 use Rattle.tty_terminal.specs.Marks.{Marks, marks_of, marks_after}
 use Rattle.tty_terminal.proofs.MarkLaws.{step_marks}
+use Rattle.tty_terminal.proofs.Agreeing.{leads_agrees}
 use Rattle.tty_terminal.proofs.StepLaws.{sent_of, step_does}
 use Rattle.journal_check.proofs.PhaseLemmas.{phase-after}
 use Rattle.journal_check.specs.Legal.{phase_at, ClockMark, clock_ends, clock_marks, clock_marks_in, line_ends}
 use Rattle.journal_check.specs.Legal.{line_ends_in, session_events, session_events_in, ticks_of, is_phase_end}
 use Rattle.journal_check.specs.Legal.{before_line_end, received_before, sent_by, script_of_first, script_on, flip_on}
 use Rattle.journal_check.specs.Legal.{first_step, steps_in, IsInPhase, AreInPhases, IsFinishedFrom, IsLegal}
+use Rattle.journal_check.specs.Legal.{IsOfPhase, AreSeen}
 use Rattle.journal_check.proofs.Truths.{if_true, nothing_first, nothing_rest}
 use Rattle.one_thread.specs.Order.{Place, first_place, next_place, accepted_front, due}
-use Rattle.one_thread.specs.Order.{is_after_flush, IsPieceOf, IsInTurn, AreInTurn, IsInOneOrder}
+use Rattle.one_thread.specs.Order.{turn, cuts_flushed, is_after_flush, IsPieceOf, IsInTurn, AreInTurn, AllSeeAll}
+use Rattle.one_thread.specs.Order.{IsInOneOrder}
 use Rattle.one_thread.proofs.Places.{phase_from}
 use Rattle.one_thread.proofs.ReceivedLemmas.{script_parts, list_grows, kept_later}
 use Rattle.order_laws.specs.Lost.{overruns_after, taken_before_line_end, excess, overruns_before, IsSameRun}
+use Rattle.order_laws.specs.Growth.{HasShape}
+use Rattle.order_laws.proofs.Growing.{WaitAlike, due_same, turn_same, place_same}
+use Rattle.order_laws.proofs.Shapes.{first_lines_same, counts_same, phases_same, at_phase}
 use Rattle.order_laws.proofs.TheEntry.{Coming, call_event, line_event, clock_event, the_event, coming_with, event_is}
 use Rattle.order_laws.proofs.Losing.{first_or, kept_begins, either_side, all_above}
 use Rattle.order_laws.proofs.Losing.{Loses, lost_before, all_lost, loses_of}
@@ -66,33 +75,36 @@ begins_both : (over : Bool) (A A' : Type 0) (B B' : Type 0) (part part' : ℕ) (
 begins_both true A A' B B' part part' x h k = h.1 ∙ sym k.1
 begins_both false A A' B B' part part' x h k = eq-eqb part 0 h.1 ∙ sym (eq-eqb part' 0 k.1)
 
-numbers_of : (p : ℕ) (session : PlainSession) (s : Place) (who : Who) (step part step' part' : ℕ) (event : PlainEvent)
+numbers_of : (p : ℕ) (session later : PlainSession) (s : Place) (who : Who) (step part step' part' : ℕ) (event : PlainEvent)
     → IsAllowed (call_at p session) (counts_on p session) s.terminal who step part event
-    → IsAllowed (call_at p session) (counts_on p session) s.terminal who step' part' event
+    → counts_on p later ≡ counts_on p session
+    → IsAllowed (call_at p later) (counts_on p later) s.terminal who step' part' event
     → IsPieceOf p session s part event
-    → IsPieceOf p session s part' event
+    → IsPieceOf p later s part' event
     → (step ≡ step') × (part ≡ part')
-numbers_of p session s who step part step' part' (answered a dropped) h k piece piece' =
+numbers_of p session later s who step part step' part' (answered a dropped) h counts k piece piece' =
     by_both who _ _ _ h k (λ c x y. (x.next.at_step ∙ sym y.next.at_step, x.next.at_part ∙ sym y.next.at_part))
-numbers_of p session s who step part step' part' (parted n) h k piece piece' =
+numbers_of p session later s who step part step' part' (parted n) h counts k piece piece' =
     by_both who _ _ _ h k (λ c x y. (x.next.at_step ∙ sym y.next.at_step, x.next.at_part ∙ sym y.next.at_part))
-numbers_of p session s who step part step' part' waited h k piece piece' =
+numbers_of p session later s who step part step' part' waited h counts k piece piece' =
     by_both who _ _ _ h k (λ c x y. (x.next.at_step ∙ sym y.next.at_step, x.next.at_part ∙ sym y.next.at_part))
-numbers_of p session s who step part step' part' (flushed chars) h k piece piece' =
+numbers_of p session later s who step part step' part' (flushed chars) h counts k piece piece' =
     follow_same s.terminal.flushed step part step' part' h.1.numbered k.1.numbered
     (begins_both s.terminal.line_over _ _ _ _ part part' (not (is_after_flush s.before)) piece piece')
-numbers_of p session s who step part step' part' ticked h k piece piece' =
+numbers_of p session later s who step part step' part' ticked h counts k piece piece' =
     (h.1.phase.at_step ∙ sym k.1.phase.at_step, h.1.phase.at_part ∙ sym k.1.phase.at_part)
-numbers_of p session s who step part step' part' (line_ended n) h k piece piece' =
+numbers_of p session later s who step part step' part' (line_ended n) h counts k piece piece' =
     (h.1.phase.at_step ∙ sym k.1.phase.at_step, h.1.phase.at_part ∙ sym k.1.phase.at_part)
-numbers_of p session s who step part step' part' clock_ended h k piece piece' =
+numbers_of p session later s who step part step' part' clock_ended h counts k piece piece' =
     (h.1.phase.at_step ∙ sym k.1.phase.at_step, h.1.phase.at_part ∙ sym k.1.phase.at_part)
-numbers_of p session s who step part step' part' caller_ended h k piece piece' =
+numbers_of p session later s who step part step' part' caller_ended h counts k piece piece' =
     by_both who _ _ _ h k (λ c x y. (x.at_step ∙ sym y.at_step, x.at_part ∙ sym y.at_part))
-numbers_of p session s who step part step' part' phase_ended h k piece piece' =
+numbers_of p session later s who step part step' part' phase_ended h counts k piece piece' =
     (h.1.phase.at_step ∙ sym k.1.phase.at_step, h.1.phase.at_part ∙ sym k.1.phase.at_part)
-numbers_of p session s who step part step' part' (hung_up dropped) h k piece piece' =
-    (h.1.at_step ∙ sym k.1.at_step, h.1.at_part ∙ sym k.1.at_part)
+numbers_of p session later s who step part step' part' (hung_up dropped) h counts k piece piece' = (
+  h.1.at_step ∙ (ap (λ (ns : List ℕ). length ns) (sym counts) ∙ sym k.1.at_step),
+  h.1.at_part ∙ sym k.1.at_part,
+)
 
 -- ---- one entry
 
@@ -142,35 +154,84 @@ same_event p session s Session c d chars lines marks =
     ap (λ (cs : List Flagged). if nat_le (length session.phases) s.terminal.phase then hung_up cs else phase_ended)
     chars
 
-same_entry : (p : ℕ) (session : PlainSession) (s : Place) (e e' : PlainEntry) (chars chars' : List Flagged)
+-- what comes of a caller: the end of its calls, or its next call
+abbrev pub coming_call : ℕ → PlainSession → Place → ℕ → Option (Option PlainCall)
+coming_call p session s c =
+    if nat_le (first_step p session s.terminal.phase c + steps_in p session s.terminal.phase c)
+    (caller_at s.terminal c).next
+    then None
+    else Some (call_at p session c (caller_at s.terminal c).next)
+
+abbrev event_by : Terminal → ℕ → List Flagged → Option (Option PlainCall) → PlainEvent
+event_by t c chars None = caller_ended
+event_by t c chars (Some call) =
+    call_event t (is_some (caller_at t c).waits) (outcome_of t (caller_at t c) call) chars
+
+by_coming : (ended : Bool) (t : Terminal) (c : ℕ) (call : Option PlainCall) (chars : List Flagged)
+    → (if ended then caller_ended
+    else call_event t (is_some (caller_at t c).waits) (outcome_of t (caller_at t c) call) chars)
+    ≡ event_by t c chars (if ended then None else Some call)
+by_coming true t c call chars = refl
+by_coming false t c call chars = refl
+
+-- two sessions of one shape have the same entry come, where the same comes of the caller whose turn it is
+other_event : (p : ℕ) (session later : PlainSession) (s : Place) (who : Who) (d : Coming)
+    → HasShape p session later
+    → ((c : ℕ) → who ≡ Caller c → coming_call p session s c ≡ coming_call p later s c)
+    → the_event p session s d who ≡ the_event p later s d who
+other_event p session later s (Caller c) d shape coming =
+    by_coming (nat_le (first_step p session s.terminal.phase c + steps_in p session s.terminal.phase c)
+    (caller_at s.terminal c).next) s.terminal c (call_at p session c (caller_at s.terminal c).next) d.chars
+    ∙ (ap (λ (o : Option (Option PlainCall)). event_by s.terminal c d.chars o) (coming c refl)
+    ∙ sym (by_coming (nat_le (first_step p later s.terminal.phase c + steps_in p later s.terminal.phase c)
+    (caller_at s.terminal c).next) s.terminal c (call_at p later c (caller_at s.terminal c).next) d.chars))
+other_event p session later s Flusher d shape coming =
+    ap (λ (cs : List Flagged). flushed (if s.terminal.line_over
+    then accepted_front s.terminal (take (min 64 (s.terminal.sent - s.terminal.taken)) d.chars)
+    else cs)) (due_same p session later s shape)
+other_event p session later s Line d shape coming = refl
+other_event p session later s Clock d shape coming = refl
+other_event p session later s Session d shape coming =
+    ap (λ (n : ℕ).
+    if nat_le n s.terminal.phase then hung_up (take (s.terminal.sent - s.terminal.taken) d.chars) else phase_ended)
+    (sym (phases_same p session later shape))
+
+same_entry : (p : ℕ) (session later : PlainSession) (s : Place) (e e' : PlainEntry) (chars chars' : List Flagged)
     (lines lines' : List ℕ) (marks marks' : List ClockMark)
+    → HasShape p session later
+    → turn p session s ≡ turn p later s
+    → ((c : ℕ) → e.who ≡ Caller c → coming_call p session s c ≡ coming_call p later s c)
     → MayCome p session s e
-    → MayCome p session s e'
+    → MayCome p later s e'
     → take (s.terminal.sent - s.terminal.taken) (chars_in e.event ++ chars)
     ≡ take (s.terminal.sent - s.terminal.taken) (chars_in e'.event ++ chars')
     → (e.who ≡ Line → line_event (line_ends e.event ++ lines) ≡ line_event (line_ends e'.event ++ lines'))
     → clock_marks e.event ++ marks ≡ clock_marks e'.event ++ marks'
     → e ≡ e'
-same_entry p session s e e' chars chars' lines lines' marks marks' h h' fronts ends clock =
-    let calls = call_at p session in
-    let counts = counts_on p session in
-    let who : e.who ≡ e'.who = h.in_turn.by_turn ∙ sym h'.in_turn.by_turn in
+same_entry p session later s e e' chars chars' lines lines' marks marks'
+    shape turned coming h h' fronts ends clock =
+    let calls = call_at p later in
+    let counts = counts_on p later in
+    let who : e.who ≡ e'.who = h.in_turn.by_turn ∙ (turned ∙ sym h'.in_turn.by_turn) in
     let is = event_is p session s e.who e.step e.part e.event chars lines marks h.allowed.1
     h.in_turn.by_turn h.in_turn.piece h.in_phase h.within in
-    let is' = event_is p session s e'.who e'.step e'.part e'.event chars' lines' marks' h'.allowed.1
+    let is' = event_is p later s e'.who e'.step e'.part e'.event chars' lines' marks' h'.allowed.1
     h'.in_turn.by_turn h'.in_turn.piece h'.in_phase h'.within in
     let same = same_event p session s e.who (coming_with e.event chars lines marks)
     (coming_with e'.event chars' lines' marks') fronts ends clock in
+    let over = other_event p session later s e.who (coming_with e'.event chars' lines' marks') shape coming in
     let event : e.event ≡ e'.event =
     is
-    ∙ (same ∙ (ap (λ (w : Who). the_event p session s (coming_with e'.event chars' lines' marks') w) who ∙ sym is')) in
+    ∙ (same
+    ∙ (over ∙ (ap (λ (w : Who). the_event p later s (coming_with e'.event chars' lines' marks') w) who ∙ sym is'))) in
     let allowed' : IsAllowed calls counts s.terminal e.who e'.step e'.part e.event =
     subst (λ (w : Who). IsAllowed calls counts s.terminal w e'.step e'.part e.event) (sym who)
     (subst (λ (x : PlainEvent). IsAllowed calls counts s.terminal e'.who e'.step e'.part x) (sym event) h'.allowed.1) in
-    let piece' : IsPieceOf p session s e'.part e.event =
-    subst (λ (x : PlainEvent). IsPieceOf p session s e'.part x) (sym event) h'.in_turn.piece in
+    let piece' : IsPieceOf p later s e'.part e.event =
+    subst (λ (x : PlainEvent). IsPieceOf p later s e'.part x) (sym event) h'.in_turn.piece in
     let numbers =
-    numbers_of p session s e.who e.step e.part e'.step e'.part e.event h.allowed.1 allowed' h.in_turn.piece piece' in
+    numbers_of p session later s e.who e.step e.part e'.step e'.part e.event h.allowed.1
+    (counts_same p session later shape) allowed' h.in_turn.piece piece' in
     let generation : e.generation ≡ e'.generation = h.allowed.0 ∙ sym h'.allowed.0 in
     λ i. record { who = who i; step = numbers.0 i; part = numbers.1 i; generation = generation i; event = event i }
 
@@ -211,12 +272,12 @@ phases_rise k (e ∷ es) =
     let here = phase_rises e.event k in let rest = phases_rise (phase_after e.event k) es in omega arith
 
 -- what is left of a journal, from a place to its end
-record IsRest (p : ℕ) (session : PlainSession) (s : Place) (es : List PlainEntry) : Type 0 where
-  last : Terminal
-  leads : Leads (call_at p session) (counts_on p session) s.terminal es last
-  turns : AreInTurn p session s es
-  phases : AreInPhases p session s.terminal.phase es
-  ends : phase_from s.terminal.phase es ≡ length session.phases
+pub record IsRest (p : ℕ) (session : PlainSession) (s : Place) (es : List PlainEntry) : Type 0 where
+  pub last : Terminal
+  pub leads : Leads (call_at p session) (counts_on p session) s.terminal es last
+  pub turns : AreInTurn p session s es
+  pub phases : AreInPhases p session s.terminal.phase es
+  pub ends : phase_from s.terminal.phase es ≡ length session.phases
 
 may_come : (p : ℕ) (session : PlainSession) (s : Place) (e : PlainEntry) (es : List PlainEntry)
     → IsRest p session s (e ∷ es)
@@ -266,21 +327,20 @@ session_hangs who k n calls counts t step part phase_ended h is past within = ab
 session_hangs who k n calls counts t step part (hung_up dropped) h is past within = omega arith
 
 nothing_more : (p : ℕ) (session : PlainSession) (s : Place) (e : PlainEntry) (es : List PlainEntry)
-    → IsRest p session s []
+    → s.terminal.phase ≡ length session.phases
     → IsRest p session s (e ∷ es)
     → hangs (e ∷ es) ≡ 0
     → ⊥
-nothing_more p session s e es h h' none =
-    let end : s.terminal.phase ≡ length session.phases = h.ends in
-    let may = may_come p session s e es h' in
-    let past : length session.phases ≤ s.terminal.phase = omega arith in
+nothing_more p session s e es end h none =
+    let may = may_come p session s e es h in
+    let past : length session.phases ≤ s.terminal.phase = omega (arith, end) in
     let is : e.who ≡ Session =
     may.in_turn.by_turn
     ∙ if_true (nat_le (length session.phases) s.terminal.phase) Session _
     (le-leb (length session.phases) s.terminal.phase past) in
     let some = session_hangs e.who s.terminal.phase (length session.phases) (call_at p session) (counts_on p session)
     s.terminal e.step e.part e.event may.allowed.1 is past may.within in
-    absurd (omega arith)
+    absurd (omega (arith, some, none))
 
 -- ---- what is known of one run at a place
 
@@ -697,6 +757,92 @@ ends_line p session journal overruns s e es n h is =
       taken = omega (arith, walk, none, number);
     }
 
+-- ---- the same line in two sessions
+
+sent_same : (p : ℕ) (session later : PlainSession) (overruns : List Overrun) (k : ℕ)
+    → HasShape p session later
+    → sent_by p later overruns k ≡ sent_by p session overruns k
+sent_same p session later overruns k shape =
+    ap (λ (steps : List LineStep). length (kept_list (received_list steps) overruns))
+    (first_lines_same p session later (k + 1) shape)
+
+received_same : (p : ℕ) (session later : PlainSession) (k : ℕ)
+    → HasShape p session later
+    → received_before p later k ≡ received_before p session k
+received_same p session later k shape =
+    ap (λ (steps : List LineStep). length (received_list steps)) (first_lines_same p session later k shape)
+
+all_see : (p : ℕ) (session later : PlainSession) (journal : List PlainEntry) (overruns : List Overrun)
+    → HasShape p session later
+    → AllSeeAll p later journal overruns
+    → AllSeeAll p session journal overruns
+all_see p session later journal [] shape h = tt
+all_see p session later journal (o ∷ os) shape h = (
+  λ k low high. h.0 k (omega (arith, low, received_same p session later k shape))
+      (omega (arith, high, received_same p session later (k + 1) shape)),
+  all_see p session later journal os shape h.1,
+)
+
+of_phase : (p : ℕ) (session later : PlainSession) (k : ℕ) (o : Overrun)
+    → HasShape p session later
+    → IsOfPhase p session k o
+    → IsOfPhase p later k o
+of_phase p session later k o shape h = (
+  (let low = h.0 in omega (arith, low, received_same p session later k shape)),
+  (let high = h.1 in omega (arith, high, received_same p session later (k + 1) shape)),
+)
+
+script_same : (p : ℕ) (session later : PlainSession)
+    → HasShape p session later
+    → script_on p later ≡ script_on p session
+script_same p session later shape = ap script shape.lines
+
+are_seen : (p : ℕ) (session later : PlainSession) (journal : List PlainEntry) (overruns : List Overrun)
+    → HasShape p session later
+    → AreSeen p later journal overruns
+    → AreSeen p session journal overruns
+are_seen p session later journal [] shape h = tt
+are_seen p session later journal (o ∷ os) shape h = (
+  record {
+    at_character = subst (λ (steps : List LineStep). o.at < length (received_list steps))
+        (script_same p session later shape) h.0.at_character;
+    from_before = λ k is. h.0.from_before k (of_phase p session later k o shape is);
+    by_line_end = λ k is. h.0.by_line_end k (of_phase p session later k o shape is);
+  },
+  are_seen p session later journal os shape h.1,
+)
+
+whole_as : (p : ℕ) (session later : PlainSession) (journal : List PlainEntry) (overruns : List Overrun)
+    → HasShape p session later
+    → Whole p later journal overruns
+    → Whole p session journal overruns
+whole_as p session later journal overruns shape h = record {
+  loses = record {
+    shown = subst (λ (n : ℕ). AreShown n 0 0 overruns) shape.flip h.loses.shown;
+    all = all_see p session later journal overruns shape h.loses.all;
+    account = are_seen p session later journal overruns shape h.loses.account;
+    fits = λ k lt.
+        let number = sent_same p session later overruns k shape in
+        let phases = phases_same p session later shape in
+        let fit = h.loses.fits k (omega (arith, lt, phases)) in
+        omega (arith, fit, number, shape.flip);
+  };
+  chars = h.chars
+      ∙ ap (λ (steps : List LineStep). kept_list (received_list steps) overruns) (script_same p session later shape);
+}
+
+ends_as : (p : ℕ) (session later : PlainSession) (journal : List PlainEntry) (overruns : List Overrun) (s : Place)
+    (n : ℕ)
+    → HasShape p session later
+    → EndsLine p later journal overruns s n
+    → EndsLine p session journal overruns s n
+ends_as p session later journal overruns s n shape h = record {
+  within = (let lt = h.within in omega (arith, lt, phases_same p session later shape));
+  over = h.over;
+  number = h.number ∙ sent_same p session later overruns s.terminal.phase shape;
+  taken = h.taken;
+}
+
 -- the same is known of both runs once their line is over
 alike_by_end : (p : ℕ) (session : PlainSession) (journal other : List PlainEntry) (lost lost' : List Overrun)
     (s : Place) (n n' : ℕ)
@@ -762,11 +908,87 @@ alike_taken journal other phase_ended k over may h at_end = λ i lt.
     (let one = ap one_if may in h i (omega (arith, lt, one)))
 alike_taken journal other (hung_up dropped) k over may h at_end = h
 
-module _ (p : ℕ) (session : PlainSession) (journal other : List PlainEntry) (lost lost' : List Overrun)
-    (whole : Whole p session journal lost) (whole' : Whole p session other lost') where
+-- What two sessions of one shape have in common where their runs stand at one place: the calls of those who wait, and
+-- what comes of the caller whose turn it is; and so at the next place.
+pub record StayAlike (p : ℕ) (session later : PlainSession)
+    (Are : Place → List PlainEntry → List PlainEntry → Type 0) : Type 0 where
+  pub waiting : (s : Place) (es es' : List PlainEntry) → Are s es es' → WaitAlike p session later s.terminal
+  pub coming : (s : Place) (e e' : PlainEntry) (es es' : List PlainEntry) (c : ℕ)
+      → Are s (e ∷ es) (e' ∷ es')
+      → IsRest p session s (e ∷ es)
+      → IsRest p later s (e' ∷ es')
+      → e.who ≡ Caller c
+      → e'.who ≡ Caller c
+      → coming_call p session s c ≡ coming_call p later s c
+  pub on : (s : Place) (e : PlainEntry) (es es' : List PlainEntry)
+      → Are s (e ∷ es) (e ∷ es')
+      → IsRest p session s (e ∷ es)
+      → IsRest p later s (e ∷ es')
+      → AgreesAt (call_at p session) (call_at p later) e.who e.step e.event
+      → next_place (call_at p later) s e ≡ next_place (call_at p session) s e
+      → Are (next_place (call_at p session) s e) es es'
+
+-- the same is left of both, and at its end they are alike
+pub record SameRest (Are : Place → List PlainEntry → List PlainEntry → Type 0) (es es' : List PlainEntry) : Type 0 where
+  pub same : es ≡ es'
+  pub at_end : Place
+  pub are : Are at_end [] []
+
+-- the call of an entry is that which comes
+some_call : (ended : Bool) (f : Bool) (x y : Option PlainCall)
+    → ended ≡ false
+    → f ≡ false
+    → (if ended then None else Some x) ≡ (if f then None else Some y)
+    → x ≡ y
+some_call true f x y e k same = absurd (cc)
+some_call false true x y e k same = absurd (cc)
+some_call false false x y e k same = same_Some x y same
+
+agrees_at : (p : ℕ) (session later : PlainSession) (s : Place) (who : Who) (step part : ℕ) (event : PlainEvent)
+    → IsAllowed (call_at p session) (counts_on p session) s.terminal who step part event
+    → IsInPhase p session s.terminal.phase who step event
+    → IsInPhase p later s.terminal.phase who step event
+    → ((c : ℕ) → who ≡ Caller c → coming_call p session s c ≡ coming_call p later s c)
+    → AgreesAt (call_at p session) (call_at p later) who step event
+agrees_at p session later s (Caller d) step part event h phase phase' coming c of_call own =
+    let same : d ≡ c = eqb-true d c own in
+    let at : step ≡ (caller_at s.terminal d).next = call_step event h of_call in
+    let low = (phase.1 of_call).1 in
+    let low' = (phase'.1 of_call).1 in
+    let ended = lt-leb (first_step p session s.terminal.phase d + steps_in p session s.terminal.phase d)
+    (caller_at s.terminal d).next (omega (arith, low, at)) in
+    let ended' = lt-leb (first_step p later s.terminal.phase d + steps_in p later s.terminal.phase d)
+    (caller_at s.terminal d).next (omega (arith, low', at)) in
+    let calls = some_call _ _ (call_at p session d (caller_at s.terminal d).next)
+    (call_at p later d (caller_at s.terminal d).next) ended ended' (coming d refl) in
+    subst (λ (x : ℕ). call_at p later x step ≡ call_at p session x step) same
+    (subst (λ (n : ℕ). call_at p later d n ≡ call_at p session d n) (sym at) (sym calls))
+  where
+    call_step : (event : PlainEvent)
+        → IsAllowed (call_at p session) (counts_on p session) s.terminal (Caller d) step part event
+        → is_of_call event ≡ true
+        → step ≡ (caller_at s.terminal d).next
+    call_step (answered a dropped) h is = h.next.at_step
+    call_step (parted n) h is = h.next.at_step
+    call_step waited h is = h.next.at_step
+    call_step (flushed chars) h is = absurd (false≢true is)
+    call_step ticked h is = absurd (false≢true is)
+    call_step (line_ended n) h is = absurd (false≢true is)
+    call_step clock_ended h is = absurd (false≢true is)
+    call_step caller_ended h is = absurd (false≢true is)
+    call_step phase_ended h is = absurd (false≢true is)
+    call_step (hung_up dropped) h is = absurd (false≢true is)
+agrees_at p session later s Flusher step part event h phase phase' coming c of_call own = absurd (false≢true own)
+agrees_at p session later s Line step part event h phase phase' coming c of_call own = absurd (false≢true own)
+agrees_at p session later s Clock step part event h phase phase' coming c of_call own = absurd (false≢true own)
+agrees_at p session later s Session step part event h phase phase' coming c of_call own = absurd (false≢true own)
+
+module _ (p : ℕ) (session later : PlainSession) (journal other : List PlainEntry) (lost lost' : List Overrun)
+    (shape : HasShape p session later) (whole : Whole p session journal lost) (whole' : Whole p session other lost')
+    (Are : Place → List PlainEntry → List PlainEntry → Type 0) (stay : StayAlike p session later Are) where
   end_of : (s : Place) (e e' : PlainEntry) (es es' : List PlainEntry) (n n' : ℕ)
       → IsLeft p session journal lost s (e ∷ es)
-      → IsLeft p session other lost' s (e' ∷ es')
+      → IsLeft p later other lost' s (e' ∷ es')
       → TakenAlike journal other (lines_over s.terminal)
       → e.event ≡ line_ended n
       → e'.event ≡ line_ended n'
@@ -775,7 +997,7 @@ module _ (p : ℕ) (session : PlainSession) (journal other : List PlainEntry) (l
       × TakenAlike journal other (suc s.terminal.phase)
   end_of s e e' es es' n n' h h' taken is is' =
       let ends = ends_line p session journal lost s e es n h is in
-      let ends' = ends_line p session other lost' s e' es' n' h' is' in
+      let ends' = ends_as p session later other lost' s n' shape (ends_line p later other lost' s e' es' n' h' is') in
       let alike = alike_by_end p session journal other lost lost' s n n' taken ends ends' in
       let sends = send_alike p session journal other lost lost' s.terminal.phase whole whole' ends.within alike in (
         ends.number ∙ (sends.number ∙ sym ends'.number),
@@ -784,39 +1006,59 @@ module _ (p : ℕ) (session : PlainSession) (journal other : List PlainEntry) (l
         alike,
       )
 
+  turn_alike : (s : Place) (es es' : List PlainEntry) → Are s es es' → turn p session s ≡ turn p later s
+  turn_alike s es es' are = turn_same p session later s shape (stay.waiting s es es' are)
+
+  -- what comes of the caller who makes the next entry
+  coming_alike : (s : Place) (e e' : PlainEntry) (es es' : List PlainEntry)
+      → IsLeft p session journal lost s (e ∷ es)
+      → IsLeft p later other lost' s (e' ∷ es')
+      → Are s (e ∷ es) (e' ∷ es')
+      → (c : ℕ)
+      → e.who ≡ Caller c
+      → coming_call p session s c ≡ coming_call p later s c
+  coming_alike s e e' es es' h h' are c who =
+      let may = may_come p session s e es h.rest in
+      let may' = may_come p later s e' es' h'.rest in
+      let who' = may'.in_turn.by_turn ∙ (sym (turn_alike s (e ∷ es) (e' ∷ es') are) ∙ sym may.in_turn.by_turn) in
+      stay.coming s e e' es es' c are h.rest h'.rest who (who' ∙ who)
+
   entry_alike : (s : Place) (e e' : PlainEntry) (es es' : List PlainEntry)
       → IsLeft p session journal lost s (e ∷ es)
-      → IsLeft p session other lost' s (e' ∷ es')
+      → IsLeft p later other lost' s (e' ∷ es')
       → IsAlike p session journal other s (e ∷ es) (e' ∷ es')
+      → Are s (e ∷ es) (e' ∷ es')
       → e ≡ e'
-  entry_alike s e e' es es' h h' alike =
+  entry_alike s e e' es es' h h' alike are =
       let t = s.terminal in
       let m = t.sent - t.taken in
       let may = may_come p session s e es h.rest in
-      let may' = may_come p session s e' es' h'.rest in
+      let may' = may_come p later s e' es' h'.rest in
+      let turned = turn_alike s (e ∷ es) (e' ∷ es') are in
       let fronts : take m (chars_in e.event ++ chars_of es) ≡ take m (chars_in e'.event ++ chars_of es') =
       ap (λ (cs : List Flagged). take m cs) (sym h.chars)
       ∙ (fronts_of t.sent t.taken (chars_of journal) (chars_of other) alike.sent
       ∙ ap (λ (cs : List Flagged). take m cs) h'.chars) in
-      let who : e'.who ≡ e.who = may'.in_turn.by_turn ∙ sym may.in_turn.by_turn in
+      let who : e'.who ≡ e.who = may'.in_turn.by_turn ∙ (sym turned ∙ sym may.in_turn.by_turn) in
       let lines : e.who ≡ Line
       → line_event (line_ends e.event ++ line_ends_in es) ≡ line_event (line_ends e'.event ++ line_ends_in es') =
       (λ is.
       let ended =
       line_ends_only (call_at p session) (counts_on p session) t e.who e.step e.part e.event may.allowed.1 is in
-      let ended' = line_ends_only (call_at p session) (counts_on p session) t e'.who e'.step e'.part e'.event
+      let ended' = line_ends_only (call_at p later) (counts_on p later) t e'.who e'.step e'.part e'.event
       may'.allowed.1 (who ∙ is) in
       let number =
       (end_of s e e' es es' (ended_number e.event) (ended_number e'.event) h h' alike.taken ended ended').0 in
       ap (λ (x : PlainEvent). line_event (line_ends x ++ line_ends_in es)) ended
       ∙ (ap (λ (n : ℕ). line_ended n) number
       ∙ ap (λ (x : PlainEvent). line_event (line_ends x ++ line_ends_in es')) (sym ended'))) in
-      same_entry p session s e e' (chars_of es) (chars_of es') (line_ends_in es) (line_ends_in es') (clock_marks_in es)
-      (clock_marks_in es') may may' fronts lines alike.marks
+      same_entry p session later s e e' (chars_of es) (chars_of es') (line_ends_in es) (line_ends_in es')
+      (clock_marks_in es) (clock_marks_in es') shape turned (coming_alike s e e' es es' h h' are) may may' fronts lines
+      alike.marks
 
   alike_more : (s : Place) (e : PlainEntry) (es es' : List PlainEntry)
       → IsLeft p session journal lost s (e ∷ es)
-      → IsLeft p session other lost' s (e ∷ es')
+      → IsLeft p later other lost' s (e ∷ es')
       → IsAlike p session journal other s (e ∷ es) (e ∷ es')
       → IsAlike p session journal other (next_place (call_at p session) s e) es es'
   alike_more s e es es' h h' alike =
@@ -843,24 +1085,55 @@ module _ (p : ℕ) (session : PlainSession) (journal other : List PlainEntry) (l
         hangups = omega (arith, hanging);
       }
 
+  -- the call of the next entry is the same in both, and so is the next place
+  agrees_here : (s : Place) (e : PlainEntry) (es es' : List PlainEntry)
+      → IsLeft p session journal lost s (e ∷ es)
+      → IsLeft p later other lost' s (e ∷ es')
+      → Are s (e ∷ es) (e ∷ es')
+      → AgreesAt (call_at p session) (call_at p later) e.who e.step e.event
+  agrees_here s e es es' h h' are = agrees_at p session later s e.who e.step e.part e.event h.rest.leads.0.1
+      h.rest.phases.0 h'.rest.phases.0 (coming_alike s e e es es' h h' are)
+
+  next_alike : (s : Place) (e : PlainEntry) (es : List PlainEntry)
+      → IsLeft p session journal lost s (e ∷ es)
+      → AgreesAt (call_at p session) (call_at p later) e.who e.step e.event
+      → next_place (call_at p later) s e ≡ next_place (call_at p session) s e
+  next_alike s e es h agrees =
+      let f = call_at p session in
+      let led = leads_agrees f (call_at p later) (counts_on p session) s.terminal (e ∷ []) (after f s.terminal e)
+      (agrees, tt) (h.rest.leads.0, refl) in
+      λ i. record {
+        terminal = sym led.1 i;
+        before = Some e;
+        cuts = cuts_flushed s.terminal e.event s.cuts;
+      }
+
   one_rest : (s : Place) (es es' : List PlainEntry)
       → IsLeft p session journal lost s es
-      → IsLeft p session other lost' s es'
+      → IsLeft p later other lost' s es'
       → IsAlike p session journal other s es es'
-      → es ≡ es'
-  one_rest s [] [] h h' alike = refl
-  one_rest s [] (e ∷ es) h h' alike = absurd (nothing_more p session s e es h.rest h'.rest (sym alike.hangups))
-  one_rest s (e ∷ es) [] h h' alike = absurd (nothing_more p session s e es h'.rest h.rest alike.hangups)
-  one_rest s (e ∷ es) (e' ∷ es') h h' alike =
-      let is : e ≡ e' = entry_alike s e e' es es' h h' alike in
-      let other_left : IsLeft p session other lost' s (e ∷ es') =
-      subst (λ (x : PlainEntry). IsLeft p session other lost' s (x ∷ es')) (sym is) h' in
+      → Are s es es'
+      → SameRest Are es es'
+  one_rest s [] [] h h' alike are = record { same = refl; at_end = s; are = are }
+  one_rest s [] (e ∷ es) h h' alike are =
+      absurd (nothing_more p later s e es (h.rest.ends ∙ sym (phases_same p session later shape)) h'.rest
+      (sym alike.hangups))
+  one_rest s (e ∷ es) [] h h' alike are =
+      absurd (nothing_more p session s e es (h'.rest.ends ∙ phases_same p session later shape) h.rest alike.hangups)
+  one_rest s (e ∷ es) (e' ∷ es') h h' alike are =
+      let is : e ≡ e' = entry_alike s e e' es es' h h' alike are in
+      let other_left : IsLeft p later other lost' s (e ∷ es') =
+      subst (λ (x : PlainEntry). IsLeft p later other lost' s (x ∷ es')) (sym is) h' in
       let same : IsAlike p session journal other s (e ∷ es) (e ∷ es') =
       subst (λ (x : PlainEntry). IsAlike p session journal other s (e ∷ es) (x ∷ es')) (sym is) alike in
-      λ i.
-      is i
-      ∷ one_rest (next_place (call_at p session) s e) es es' (left_more p session journal lost s e es h)
-      (left_more p session other lost' s e es' other_left) (alike_more s e es es' h other_left same) i
+      let are_now : Are s (e ∷ es) (e ∷ es') = subst (λ (x : PlainEntry). Are s (e ∷ es) (x ∷ es')) (sym is) are in
+      let agrees = agrees_here s e es es' h other_left are_now in
+      let next = next_alike s e es h agrees in
+      let rest = one_rest (next_place (call_at p session) s e) es es' (left_more p session journal lost s e es h)
+      (subst (λ (x : Place). IsLeft p later other lost' x es') next (left_more p later other lost' s e es' other_left))
+      (alike_more s e es es' h other_left same)
+      (stay.on s e es es' are_now h.rest other_left.rest agrees next) in
+      record { same = λ i. is i ∷ rest.same i; at_end = rest.at_end; are = rest.are }
 
 -- ---- what a finished journal comes to
 
@@ -869,12 +1142,12 @@ all_marks p session k [] = []
 all_marks p session k (phase ∷ phases) =
     (ticks_of (ticks_on p (phase_at session k)) ++ clock_ends ∷ []) ++ all_marks p session (k + 1) phases
 
-record Comes (p : ℕ) (session : PlainSession) (overruns : List Overrun) (k : ℕ) (phases : List PlainPhase)
+pub record Comes (p : ℕ) (session : PlainSession) (overruns : List Overrun) (k : ℕ) (phases : List PlainPhase)
     (journal : List PlainEntry) : Type 0 where
   lines : line_ends_in journal ≡ all_lines p session overruns k phases
   marks : clock_marks_in journal ≡ all_marks p session k phases
   hangups : hangs journal ≡ 1
-  ends : (m : ℕ) → phase_from m journal ≡ m + length phases
+  pub ends : (m : ℕ) → phase_from m journal ≡ m + length phases
 
 quiet_event : (event : PlainEvent)
     → session_events event ≡ []
@@ -902,7 +1175,7 @@ quiet_part (x ∷ part) rest e =
     let sum_is : hang_of x.event + hangs (part ++ rest) ≡ hangs rest = omega arith in
     (sum_is, λ m. ap (λ (k : ℕ). phase_from k (part ++ rest)) (here.1 m) ∙ later.1 m)
 
-comes_to : (p : ℕ) (session : PlainSession) (overruns : List Overrun) (k : ℕ) (phases : List PlainPhase)
+pub comes_to : (p : ℕ) (session : PlainSession) (overruns : List Overrun) (k : ℕ) (phases : List PlainPhase)
     (journal : List PlainEntry)
     → IsFinishedFrom p session overruns k phases journal
     → Comes p session overruns k phases journal
@@ -968,6 +1241,24 @@ left_of p session run t h order =
           (let same = ap (λ (k : ℕ). taken_before_line_end k run.journal.items) (zero-add m) in omega (arith, same));
     }
 
+all_ticks : (p : ℕ) (session later : PlainSession) (k : ℕ) (phases : List PlainPhase)
+    → map (ticks_on p) later.phases ≡ map (ticks_on p) session.phases
+    → all_marks p later k phases ≡ all_marks p session k phases
+all_ticks p session later k [] same = refl
+all_ticks p session later k (phase ∷ phases) same =
+    let here = at_phase (ticks_on p) session later k same in
+    λ i. (ticks_of (here i) ++ clock_ends ∷ []) ++ all_ticks p session later (k + 1) phases same i
+
+same_count : (p : ℕ) (session : PlainSession) (k : ℕ) (phases others : List PlainPhase)
+    → length phases ≡ length others
+    → all_marks p session k phases ≡ all_marks p session k others
+same_count p session k [] [] same = refl
+same_count p session k [] (y ∷ ys) same = absurd (omega (arith, same))
+same_count p session k (x ∷ xs) [] same = absurd (omega (arith, same))
+same_count p session k (x ∷ xs) (y ∷ ys) same =
+    ap (λ (ms : List ClockMark). (ticks_of (ticks_on p (phase_at session k)) ++ clock_ends ∷ []) ++ ms)
+    (same_count p session (k + 1) xs ys (omega (arith, same)))
+
 leads_to_one : (calls : ℕ → ℕ → Option PlainCall) (counts : List ℕ) (s : Terminal) (es : List PlainEntry)
     (t u : Terminal)
     → Leads calls counts s es t
@@ -976,6 +1267,61 @@ leads_to_one : (calls : ℕ → ℕ → Option PlainCall) (counts : List ℕ) (s
 leads_to_one calls counts s [] t u h k = h ∙ sym k
 leads_to_one calls counts s (e ∷ es) t u h k = leads_to_one calls counts (after calls s e) es t u h.1 k.1
 
+-- the runs of two sessions of one shape have the same report, where the sessions stay alike as they go on
+pub two_runs : (p : ℕ) (session later : PlainSession) (run other : PortRun) (t u : Terminal)
+    (Are : Place → List PlainEntry → List PlainEntry → Type 0)
+    → HasShape p session later
+    → map (ticks_on p) later.phases ≡ map (ticks_on p) session.phases
+    → StayAlike p session later Are
+    → IsLegal p session run t
+    → IsLegal p later other u
+    → IsInOneOrder p session run.journal.items run.line.overruns.items
+    → IsInOneOrder p later other.journal.items other.line.overruns.items
+    → Are (first_place p session) run.journal.items other.journal.items
+    → IsSameRun run other × SameRest Are run.journal.items other.journal.items
+two_runs p session later run other t u Are shape clocks stay h h' order order' are =
+    let whole = whole_of p session run t h order in
+    let whole' = whole_as p session later other.journal.items other.line.overruns.items shape
+    (whole_of p later other u h' order') in
+    let comes = comes_to p session run.line.overruns.items 0 session.phases run.journal.items h.account.finished in
+    let comes' =
+    comes_to p later other.line.overruns.items 0 later.phases other.journal.items h'.account.finished in
+    let count = phases_same p session later shape in
+    let marks = all_ticks p session later 0 later.phases clocks
+    ∙ same_count p session 0 later.phases session.phases count in
+    let script = script_same p session later shape in
+    let rest =
+    one_rest p session later run.journal.items other.journal.items run.line.overruns.items other.line.overruns.items
+    shape whole whole' Are stay (first_place p session) run.journal.items other.journal.items
+    (left_of p session run t h order)
+    (subst (λ (s : Place). IsLeft p later other.journal.items other.line.overruns.items s other.journal.items)
+    (sym (place_same p session later shape)) (left_of p later other u h' order'))
+    (record {
+      sent = refl;
+      taken = λ i lt. absurd (omega (arith, lt));
+      marks = comes.marks ∙ (sym marks ∙ sym comes'.marks);
+      hangups = comes.hangups ∙ sym comes'.hangups;
+    }) are in
+    let journal : run.journal.items ≡ other.journal.items = rest.same in
+    let overruns : run.line.overruns.items ≡ other.line.overruns.items =
+    all_lost p session run.journal.items run.line.overruns.items whole.loses
+    ∙ (ap (λ (j : List PlainEntry). overruns_before p session j (length session.phases)) journal
+    ∙ sym (all_lost p session other.journal.items other.line.overruns.items whole'.loses)) in
+    let kept : length (kept_list (received_list (script_on p session)) run.line.overruns.items)
+    ≡ length (kept_list (received_list (script_on p later)) other.line.overruns.items) =
+    (λ i. length (kept_list (received_list (sym script i)) (overruns i))) in (
+      record {
+        journal = journal;
+        overruns = overruns;
+        arrived = h.account.arrived
+            ∙ (ap (λ (steps : List LineStep). arrival_count steps) (sym script) ∙ sym h'.account.arrived);
+        fifo_lost = h.account.fifo_lost
+            ∙ (ap (λ (steps : List LineStep). lost_count steps) (sym script) ∙ sym h'.account.fifo_lost);
+        sent = h.account.sent ∙ (kept ∙ sym h'.account.sent);
+      },
+      rest,
+    )
+
 pub one_run : (p : ℕ) (session : PlainSession) (run other : PortRun) (t u : Terminal)
     → IsLegal p session run t
     → IsLegal p session other u
@@ -983,36 +1329,17 @@ pub one_run : (p : ℕ) (session : PlainSession) (run other : PortRun) (t u : Te
     → IsInOneOrder p session other.journal.items other.line.overruns.items
     → IsSameRun run other × (t ≡ u)
 one_run p session run other t u h h' order order' =
-    let whole = whole_of p session run t h order in
-    let whole' = whole_of p session other u h' order' in
-    let comes = comes_to p session run.line.overruns.items 0 session.phases run.journal.items h.account.finished in
-    let comes' =
-    comes_to p session other.line.overruns.items 0 session.phases other.journal.items h'.account.finished in
-    let journal : run.journal.items ≡ other.journal.items =
-    one_rest p session run.journal.items other.journal.items run.line.overruns.items other.line.overruns.items whole
-    whole' (first_place p session) run.journal.items other.journal.items (left_of p session run t h order)
-    (left_of p session other u h' order')
+    let same = two_runs p session session run other t u (λ s es es'. Unit {0})
+    (record { consoles = refl; flip = refl; lines = refl; names = refl }) refl
     (record {
-      sent = refl;
-      taken = λ i lt. absurd (omega (arith, lt));
-      marks = comes.marks ∙ sym comes'.marks;
-      hangups = comes.hangups ∙ sym comes'.hangups;
-    }) in
-    let overruns : run.line.overruns.items ≡ other.line.overruns.items =
-    all_lost p session run.journal.items run.line.overruns.items whole.loses
-    ∙ (ap (λ (j : List PlainEntry). overruns_before p session j (length session.phases)) journal
-    ∙ sym (all_lost p session other.journal.items other.line.overruns.items whole'.loses)) in
-    let kept = ap (λ (os : List Overrun). length (kept_list (received_list (script_on p session)) os)) overruns in (
-      record {
-        journal = journal;
-        overruns = overruns;
-        arrived = h.account.arrived ∙ sym h'.account.arrived;
-        fifo_lost = h.account.fifo_lost ∙ sym h'.account.fifo_lost;
-        sent = h.account.sent ∙ (kept ∙ sym h'.account.sent);
-      },
+      waiting = λ s es es' are c waits. refl;
+      coming = λ s e e' es es' c are rest rest' who who'. refl;
+      on = λ s e es es' are rest rest' agrees next. tt;
+    }) h h' order order' tt in (
+      same.0,
       leads_to_one (call_at p session) (counts_on p session) (first_place p session).terminal
           run.journal.items t u h.on_the_way.steps
           (subst (λ (j : List PlainEntry).
           Leads (call_at p session) (counts_on p session) (first_place p session).terminal j u)
-          (sym journal) h'.on_the_way.steps),
+          (sym same.0.journal) h'.on_the_way.steps),
     )

@@ -1,11 +1,10 @@
 -- A port that was opened for a session is opened for each like it.
-use Rattle.std.proofs.Common.{◌≡◌, ◌⊎◌, ◌≤◌, ◌+◌, ℕ, List, [], ◌∷◌, length, map}
+use Rattle.std.proofs.Common.{◌≡◌, ◌≤◌, ◌+◌, ℕ, List, [], ◌∷◌, map}
 use Rattle.std.proofs.Common.{fold, inl, inr, refl, sym, ◌∙◌, ap, subst, arith}
 use Rattle.tty_base.specs.declared.characters.Flagged.{Flagged}
 use Rattle.tty_base.specs.declared.lines.LineStep.{LineStep}
 use Rattle.tty_base.specs.declared.lines.Overrun.{Overrun}
 use Rattle.tty_base.specs.Lines.{arrival_count}
-use Rattle.word_ring.specs.Ends.{PutterState}
 use Rattle.uart_line.specs.LineState.{HasDone}
 use Rattle.uart_line.specs.Received.{received_list, script}
 use Rattle.uart_line.specs.Offered.{HandsOver}
@@ -22,7 +21,7 @@ use Rattle.one_thread.specs.Lines.{IsAtPhase}
 use Rattle.one_thread.specs.Phases.{IsUpTo, HavePlayedInOrder, IsBeforePhase}
 use Rattle.one_thread.specs.declared.phases.Station.{Station}
 use Rattle.one_thread.proofs.PortLemmas.{first_none, nothing_played}
-use Rattle.order_laws.specs.Agreed.{Agrees, IsLike, IsBeforeEach}
+use Rattle.order_laws.specs.Agreed.{Agrees, IsBeforeEach}
 use Rattle.order_laws.proofs.Shapes.{counts_same}
 
 count_from : (p a : ℕ) (phases : List PlainPhase)

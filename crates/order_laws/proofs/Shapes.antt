@@ -6,7 +6,6 @@ use Rattle.std.specs.Str.{bytes_eq}
 use Rattle.std.specs.List.{list_any}
 use Rattle.std.proofs.lemmas.List.{length-map, map-append, take-map}
 use Rattle.std.proofs.Math.ListN.{get_or-map}
-use Rattle.tty_base.specs.declared.characters.Flagged.{Flagged}
 use Rattle.tty_base.specs.declared.lines.LineStep.{LineStep}
 use Rattle.tty_calls.specs.Sessions.{PlainScript, PlainPhase, PlainSession, line_on, scripts_on}
 use Rattle.tty_calls.specs.Sessions.{scripts_over, with_name, names_of, number_in, counts_on}
@@ -89,7 +88,7 @@ pub names_here : (p : ℕ) (session later : PlainSession) (k : ℕ)
     → names_in p (phase_at later k) ≡ names_in p (phase_at session k)
 names_here p session later k shape = at_phase (names_in p) session later k shape.names
 
-first_lines_same : (p : ℕ) (session later : PlainSession) (k : ℕ)
+pub first_lines_same : (p : ℕ) (session later : PlainSession) (k : ℕ)
     → HasShape p session later
     → script_of_first p later k ≡ script_of_first p session k
 first_lines_same p session later k shape =

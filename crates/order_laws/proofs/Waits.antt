@@ -1,6 +1,6 @@
 -- Who waits has a call that is known, at each moment of a run.
-use Rattle.std.proofs.Common.{◌≡◌, ℕ, ◌==◌, List, [], ◌∷◌, Bool, true, false, Option, None}
-use Rattle.std.proofs.Common.{Some, is_some, if◌then◌else◌, sum, refl, sym, ◌∙◌, ap, subst}
+use Rattle.std.proofs.Common.{◌≡◌, ℕ, ◌==◌, List, [], Bool, true, false, Option, None}
+use Rattle.std.proofs.Common.{Some, if◌then◌else◌, sum, refl, sym, ap, subst}
 use Rattle.std.proofs.lemmas.Bool.{false≢true, eqb-true}
 use Rattle.tty_calls.specs.declared.journals.Who.{Who}
 use Rattle.tty_calls.specs.declared.journals.Who.TheVariants.{Caller, Flusher, Line, Clock, Session}
@@ -11,7 +11,7 @@ use Rattle.tty_terminal.specs.Terminals.{Terminal, opening, caller_at}
 use Rattle.tty_terminal.specs.Calls.{outcome_of}
 use Rattle.tty_terminal.specs.Steps.{MustWait, IsWait, IsAllowed, Allowed, after}
 use Rattle.tty_terminal.specs.Standing.{Standing, standing_of, standing_after_own}
-use Rattle.tty_terminal.specs.Standing.{standing_after_other, standing_after, at_first}
+use Rattle.tty_terminal.specs.Standing.{standing_after_other}
 use Rattle.tty_terminal.proofs.StandingLaws.{step_stands, run_stands}
 
 -- a call that waits is known

@@ -1,13 +1,13 @@
 -- Two sessions in which a port was passed the same are one session to it.
 use Rattle.std.proofs.Common.{◌≡◌, ◌≤◌, ◌<◌, ◌⊎◌, inl, inr, ℕ, zero, suc, ◌+◌, List, [], ◌∷◌}
-use Rattle.std.proofs.Common.{Option, None, Some, length, refl, sym, ap, ◌∙◌, subst, arith}
-use Rattle.std.specs.Prelude.{IsTrue, slice_index_or}
+use Rattle.std.proofs.Common.{Option, None, Some, length, refl, sym, ap, ◌∙◌, arith}
+use Rattle.std.specs.Prelude.{slice_index_or}
 use Rattle.tty_calls.specs.declared.journals.Who.{Who}
 use Rattle.tty_calls.specs.declared.journals.Who.TheVariants.{Caller, Flusher, Line, Clock, Session}
-use Rattle.tty_calls.specs.Plain.{PlainCall, PlainEvent, PlainEntry}
-use Rattle.tty_calls.specs.Sessions.{PlainPhase, PlainSession, scripts_on, calls_of, call_at}
+use Rattle.tty_calls.specs.Plain.{PlainEvent, PlainEntry}
+use Rattle.tty_calls.specs.Sessions.{PlainPhase, PlainSession, scripts_on, calls_of}
 use Rattle.tty_terminal.specs.Runs.{phase_after}
-use Rattle.journal_check.specs.Legal.{phase_at, name_at, first_step, steps_in, IsInPhase, AreInPhases}
+use Rattle.journal_check.specs.Legal.{name_at, first_step, steps_in, IsInPhase, AreInPhases}
 use Rattle.journal_check.proofs.NameLemmas.{first_next}
 use Rattle.port_core.specs.Ports.{PortValue}
 use Rattle.order_laws.specs.Agreed.{Agrees}

@@ -1,11 +1,13 @@
 -- How the program ends: what `tty_run` promises of its status, said of the exit status.
-use Rattle.std.specs.Prelude.{◌≡◌, ◌≢◌, ◌⊎◌, ◌≤◌, ℕ, List, [], Option, IfSome, length, map, drop, string_bytes, String}
+use Rattle.std.specs.Prelude.{◌≡◌, ◌≢◌, ◌⊎◌, ◌≤◌, ℕ, List, [], Option, None, IfSome, length, map, drop, string_bytes}
+use Rattle.std.specs.Prelude.{String}
 use Rattle.tty_base.specs.Outside.{Rose, TookCount, LeavesRest}
-use Rattle.tty_one.specs.Endings.{AreKnown, AreRun, AreGen, AskCheck, AskConsoles, AskJobs}
+use Rattle.tty_one.specs.Endings.{AreKnown, AreRun, AreGen, AskCheck, AskConsoles, AskModem, AskJobs}
 use Rattle.tty_one.specs.Endings.{AskToPlay, AskToRead, AskVt, IsStatus, IsStatusOr, IsTold}
 use Rattle.tty_one.specs.Reported.{Returned, nothing}
 use Rattle.tty_one.specs.Consoles.{CompletesConsoles}
 use Rattle.tty_one.specs.Processes.{CompletesProcesses}
+use Rattle.tty_one.specs.ModemLines.{CompletesModemLines}
 use Rattle.tty_one.specs.Outcome.{IsDone, IsToldRefused, IsToldIllegal, IsBroken, Completes, CompletesCheck}
 use Rattle.tty_run.specs.Headline.{AreConsolesToldOnThreads, IsPlayedOnThreads}
 
@@ -41,6 +43,8 @@ pub record IsEnded (Unread : Type 0) (words : List (List ℕ)) (faults faults' m
   pub none_judged : AskCheck words → back.runs ≡ []
   pub no_entries : (AskConsoles words → ⊥) → back.entries ≡ []
   pub no_log : (AskJobs words → ⊥) → back.log ≡ []
+  pub no_modem_log : (AskModem words → ⊥) → back.modem_log ≡ []
+  pub none_derived : (AskModem words ⊎ AskJobs words → ⊥) → back.derived ≡ None
   pub rest_left : IfSome left (λ bytes. LeavesRest bytes rest)
   pub complete : IfSome left (λ bytes.
       AskToPlay words → length bytes ≤ 4194304 → (Rose faults faults' → ⊥) → Completes bytes status)
@@ -50,5 +54,7 @@ pub record IsEnded (Unread : Type 0) (words : List (List ℕ)) (faults faults' m
       (λ bytes. AskCheck words → length bytes ≤ 4194304 → (Rose faults faults' → ⊥) → CompletesCheck bytes status)
   pub consoles : IfSome left
       (λ bytes. AskConsoles words → length bytes ≤ 4194304 → (Rose faults faults' → ⊥) → CompletesConsoles bytes status)
+  pub modem_lines : IfSome left
+      (λ bytes. AskModem words → length bytes ≤ 4194304 → (Rose faults faults' → ⊥) → CompletesModemLines bytes status)
   pub processes : IfSome left
       (λ bytes. AskJobs words → length bytes ≤ 4194304 → (Rose faults faults' → ⊥) → CompletesProcesses bytes status)

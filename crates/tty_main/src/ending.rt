@@ -83,10 +83,14 @@ fn run_words<R: Threads + Wait + Sync, S: Source, K: Sink>(
         status,
         runs,
         vt,
+        modem,
         jobs,
+        derived,
     } = tty_run(rt, alloc, words, source, sink, &OpenGate);
     mem::forget(runs);
     mem::forget(vt);
+    mem::forget(modem);
     mem::forget(jobs);
+    mem::forget(derived);
     ExitCode::from(status)
 }

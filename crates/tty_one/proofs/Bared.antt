@@ -42,7 +42,7 @@ kept_bare s =
 
 -- ---- its limits
 
-procs_at : (procs : List (List Proc)) (p : ℕ)
+pub procs_at : (procs : List (List Proc)) (p : ℕ)
     → slice_index_or (map (λ ps. map bare_proc ps) procs) p [] ≡ map bare_proc (slice_index_or procs p [])
 procs_at [] p = refl
 procs_at (ps ∷ procs) zero = refl
@@ -57,7 +57,7 @@ place_from i name [] = refl
 place_from i name (proc ∷ procs) =
     ap (λ (o : Option ℕ). cond (named name proc) (Some i) o) (place_from (i + 1) name procs)
 
-place_bare : (name : List ℕ) (procs : List Proc) → proc_place (map bare_proc procs) name ≡ proc_place procs name
+pub place_bare : (name : List ℕ) (procs : List Proc) → proc_place (map bare_proc procs) name ≡ proc_place procs name
 place_bare name procs =
     position_from-zero (named name) (map bare_proc procs)
     ∙ (place_from 0 name procs ∙ sym (position_from-zero (named name) procs))

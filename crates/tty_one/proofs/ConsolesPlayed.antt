@@ -1,5 +1,5 @@
 -- What became of a session of consoles that was played, as it is reported.
-use Rattle.std.proofs.Common.{◌≡◌, ℕ, List, [], Option, Result, Ok, Err, map, sym, ap, subst, ◌∙◌}
+use Rattle.std.proofs.Common.{◌≡◌, ℕ, List, Option, Result, Ok, Err, map, sym, ap, subst, ◌∙◌}
 use Rattle.std.specs.Prelude.{IfOk}
 use Rattle.std.proofs.lemmas.List.{length-map}
 use Rattle.tty_base.specs.declared.buffers.NoMemory.{NoMemory}
@@ -20,7 +20,7 @@ use Rattle.tty_one.specs.declared.works.Ending.{Ending}
 use Rattle.tty_one.specs.declared.works.Ending.TheVariants.{Done, BadSession, BadWords, ReadFault, TooLong, NotLegal}
 use Rattle.tty_one.specs.Reported.{Returned, IsOrdered, IsInAnyOrder}
 use Rattle.tty_one.specs.Consoles.{AreConsolesPlayed, AreConsolesInOrder, AreConsolesOnThreads}
-use Rattle.tty_one.specs.Works.{brought, AreConsolesRead, CanBePlayed, IsConsolesWork, IsReportOf}
+use Rattle.tty_one.specs.Works.{brought, of_consoles, AreConsolesRead, CanBePlayed, IsConsolesWork, IsReportOf}
 use Rattle.tty_one.proofs.ConsolesRoom.{can_be_played}
 use Rattle.tty_one.proofs.PortLemmas.{AreOrdered, each_whole}
 
@@ -28,7 +28,7 @@ use Rattle.tty_one.proofs.PortLemmas.{AreOrdered, each_whole}
 
 -- what playing consoles brings
 abbrev back_of : VtPlayed → Returned
-back_of played = record { runs = played.consoles.runs.items; entries = played.board.entries; log = [] }
+back_of played = of_consoles played.consoles.runs.items played.board.entries
 
 -- the report of consoles that were played
 abbrev told_of : PlainVtSession → VtPlayed → List ℕ

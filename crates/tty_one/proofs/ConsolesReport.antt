@@ -12,12 +12,12 @@ use Rattle.vt_text.specs.Sessions.{PlainVtSession}
 use Rattle.vt_account.specs.Keyed.{keyed}
 use Rattle.vt_report.specs.Report.{tally_of, consoles_from, operators_text, report_text}
 use Rattle.tty_one.specs.declared.words.Command.{Command}
-use Rattle.tty_one.specs.declared.words.Command.TheVariants.{Run, RunOne, Jobs, Gen, Check, Vt, VtOne}
+use Rattle.tty_one.specs.declared.words.Command.TheVariants.{Run, RunOne, Modem, Jobs, Gen, Check, Vt, VtOne}
 use Rattle.tty_one.specs.Endings.{Ask, AskVtOne}
 use Rattle.tty_one.specs.Reported.{Returned, IsOrdered, IsToldAs}
 use Rattle.tty_one.specs.Consoles.{SpellsConsoles, AreConsolesInOrder, IsToldOfConsoles}
 use Rattle.tty_one.specs.Outcome.{IsToldBy, IsDone, GaveTheSame}
-use Rattle.tty_one.proofs.Outcomes.{not_jobs_and_vt, not_vt_and_run, not_vt_and_one, not_vt_and_gen}
+use Rattle.tty_one.proofs.Outcomes.{not_jobs_and_vt, not_modem_and_vt, not_vt_and_run, not_vt_and_one, not_vt_and_gen}
 use Rattle.tty_one.proofs.Outcomes.{not_vt_and_check, not_vt_and_vt_one}
 use Rattle.tty_one.proofs.OneReport.{AreSame, all_calls, one_told, both_gave}
 
@@ -76,6 +76,7 @@ consoles_told : (words : List (List ℕ)) (bytes : List ℕ) (command : Command)
 consoles_told words bytes (Run journals) back text vt asked told = absurd (not_vt_and_run words journals (inr vt) asked)
 consoles_told words bytes (RunOne journals) back text vt asked told =
     absurd (not_vt_and_one words journals (inr vt) asked)
+consoles_told words bytes Modem back text vt asked told = absurd (not_modem_and_vt words asked (inr vt))
 consoles_told words bytes Jobs back text vt asked told = absurd (not_jobs_and_vt words asked (inr vt))
 consoles_told words bytes (Gen number) back text vt asked told = absurd (not_vt_and_gen words (inr vt) (number, asked))
 consoles_told words bytes Check back text vt asked told = absurd (not_vt_and_check words (inr vt) asked)

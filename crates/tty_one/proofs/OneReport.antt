@@ -22,11 +22,12 @@ use Rattle.order_laws.proofs.OneRun.{one_run}
 use Rattle.tty_one.specs.declared.playing.Telling.{Telling}
 use Rattle.tty_one.specs.declared.playing.Telling.TheVariants.{Report, Summary}
 use Rattle.tty_one.specs.declared.words.Command.{Command}
-use Rattle.tty_one.specs.declared.words.Command.TheVariants.{Run, RunOne, Jobs, Gen, Check, Vt, VtOne}
+use Rattle.tty_one.specs.declared.words.Command.TheVariants.{Run, RunOne, Modem, Jobs, Gen, Check, Vt, VtOne}
 use Rattle.tty_one.specs.Endings.{Ask, AskRunOne, AreRunOne, AreGen, AskGen}
 use Rattle.tty_one.specs.Reported.{Returned, end_at, IsOrdered, IsWhole, text_by, IsToldAs, IsReported}
 use Rattle.tty_one.specs.Outcome.{IsPlayedText, WasGiven, IsToldBy, IsDone, GaveTheSame}
 use Rattle.tty_one.proofs.Outcomes.{not_gen_and_one, not_gen_and_run, not_check_and_gen, not_check_and_one}
+use Rattle.tty_one.proofs.Outcomes.{not_modem_and_gen, not_modem_and_one}
 use Rattle.tty_one.proofs.Outcomes.{not_run_and_one, not_jobs_and_one, not_jobs_and_gen, not_vt_and_one, not_vt_and_gen}
 
 -- ---- runs that are the same
@@ -80,7 +81,7 @@ all_calls session p (run ∷ runs) [] h = absurd h
 all_calls session p (run ∷ runs) (other ∷ others) h = λ i.
     same_calls session p run other h.0 i ++ all_calls session (p + 1) runs others h.1 i
 
-all_ports : (session : PlainSession) (p : ℕ) (runs others : List PortRun) (ends : List PlainEnd)
+pub all_ports : (session : PlainSession) (p : ℕ) (runs others : List PortRun) (ends : List PlainEnd)
     → AreSame runs others
     → ports_from p session runs ends ≡ ports_from p session others ends
 all_ports session p [] [] ends h = refl
@@ -149,34 +150,34 @@ one_at session p run other end last h k =
     (same.0, h.at_end ∙ (ap end_at same.1 ∙ sym k.at_end))
 
 -- of each place there is one run with its end
-record OneEach (W : ℕ → PortRun → PlainEnd → Type 0) (runs : List PortRun) (ends : List PlainEnd) : Type 0 where
-  count : length ends ≡ length runs
-  each : (p : ℕ) (run : PortRun) (end : PlainEnd)
+pub record OneEach (W : ℕ → PortRun → PlainEnd → Type 0) (runs : List PortRun) (ends : List PlainEnd) : Type 0 where
+  pub count : length ends ≡ length runs
+  pub each : (p : ℕ) (run : PortRun) (end : PlainEnd)
       → slice_get runs p ≡ Some run
       → slice_get ends p ≡ Some end
       → W p run end
 
-all_one : (W : ℕ → PortRun → PlainEnd → Type 0)
+pub all_one : (W V : ℕ → PortRun → PlainEnd → Type 0)
     → ((p : ℕ) (run other : PortRun) (end last : PlainEnd)
     → W p run end
-    → W p other last
+    → V p other last
     → IsSameRun run other × (end ≡ last))
     → (runs others : List PortRun) (ends lasts : List PlainEnd)
     → length runs ≡ length others
     → OneEach W runs ends
-    → OneEach W others lasts
+    → OneEach V others lasts
     → AreSame runs others × (ends ≡ lasts)
-all_one W one [] [] [] [] same h k = (tt, refl)
-all_one W one [] [] [] (last ∷ lasts) same h k = absurd (omega (arith, k.count))
-all_one W one [] [] (end ∷ ends) lasts same h k = absurd (omega (arith, h.count))
-all_one W one [] (other ∷ others) ends lasts same h k = absurd (omega (arith, same))
-all_one W one (run ∷ runs) [] ends lasts same h k = absurd (omega (arith, same))
-all_one W one (run ∷ runs) (other ∷ others) [] lasts same h k = absurd (omega (arith, h.count))
-all_one W one (run ∷ runs) (other ∷ others) (end ∷ ends) [] same h k = absurd (omega (arith, k.count))
-all_one W one (run ∷ runs) (other ∷ others) (end ∷ ends) (last ∷ lasts) same h k =
+all_one W V one [] [] [] [] same h k = (tt, refl)
+all_one W V one [] [] [] (last ∷ lasts) same h k = absurd (omega (arith, k.count))
+all_one W V one [] [] (end ∷ ends) lasts same h k = absurd (omega (arith, h.count))
+all_one W V one [] (other ∷ others) ends lasts same h k = absurd (omega (arith, same))
+all_one W V one (run ∷ runs) [] ends lasts same h k = absurd (omega (arith, same))
+all_one W V one (run ∷ runs) (other ∷ others) [] lasts same h k = absurd (omega (arith, h.count))
+all_one W V one (run ∷ runs) (other ∷ others) (end ∷ ends) [] same h k = absurd (omega (arith, k.count))
+all_one W V one (run ∷ runs) (other ∷ others) (end ∷ ends) (last ∷ lasts) same h k =
     let here = one zero run other end last (h.each zero run end refl refl) (k.each zero other last refl refl) in
     let rest =
-    all_one (λ p. W (suc p)) (λ p. one (suc p)) runs others ends lasts (omega (arith, same))
+    all_one (λ p. W (suc p)) (λ p. V (suc p)) (λ p. one (suc p)) runs others ends lasts (omega (arith, same))
     (record { count = omega (arith, h.count); each = λ p. h.each (suc p) })
     (record { count = omega (arith, k.count); each = λ p. k.each (suc p) }) in
     ((here.0, rest.0), λ i. here.1 i ∷ rest.1 i)
@@ -191,7 +192,8 @@ pub one_told : (text_of : List PortRun → List PlainEnd → List ℕ)
     → IsToldAs IsOrdered text_of session others other
     → text ≡ other
 one_told text_of alike session runs others text other h k =
-    let all = all_one (IsRunAt session) (one_at session) runs others h.ends k.ends (h.runs_of_all ∙ sym k.runs_of_all)
+    let all = all_one (IsRunAt session) (IsRunAt session) (one_at session) runs others h.ends k.ends
+    (h.runs_of_all ∙ sym k.runs_of_all)
     (record { count = h.ends_of_all ∙ sym h.runs_of_all; each = h.each })
     (record { count = k.ends_of_all ∙ sym k.runs_of_all; each = k.each }) in
     h.told ∙ (alike runs others h.ends all.0 ∙ (ap (text_of others) all.1 ∙ sym k.told))
@@ -257,6 +259,7 @@ run_told words bytes journals (Run threads) back text one asked told =
 run_told words bytes journals (RunOne others) back text one asked told =
     subst (λ (b : Bool). IsPlayedText (Some bytes) (λ session. IsReported IsOrdered (Report b) session back.runs text))
     (same_journals words others journals asked one) told
+run_told words bytes journals Modem back text one asked told = absurd (not_modem_and_one words asked journals one)
 run_told words bytes journals Jobs back text one asked told = absurd (not_jobs_and_one words journals asked one)
 run_told words bytes journals (Gen number) back text one asked told =
     absurd (not_gen_and_one words journals (number, asked) one)
@@ -286,6 +289,7 @@ gen_told words left number (Run threads) back text gen asked told =
     absurd (not_gen_and_run words threads (number, gen) asked)
 gen_told words left number (RunOne journals) back text gen asked told =
     absurd (not_gen_and_one words journals (number, gen) asked)
+gen_told words left number Modem back text gen asked told = absurd (not_modem_and_gen words asked (number, gen))
 gen_told words left number Jobs back text gen asked told = absurd (not_jobs_and_gen words asked (number, gen))
 gen_told words left number (Gen other) back text gen asked told =
     subst (λ (n : ℕ). IsReported IsOrdered (Summary n) (generated_session n) back.runs text)

@@ -1,24 +1,26 @@
 -- What each status says of the work that ended with it.
 use Rattle.std.proofs.Common.{◌≡◌, ◌⊎◌, ◌+◌, ◌≤◌, take, drop, length, codes, get_or, arith, ℕ, Bool, true, false, List}
 use Rattle.std.proofs.Common.{[], ◌∷◌, ◌++◌, Option, None, Some, Ok, IfSome, inl, inr, refl, sym, ap, subst, ◌∙◌}
+use Rattle.std.specs.Prelude.{option_map}
 use Rattle.tty_base.specs.Contents.{Contents}
 use Rattle.tty_base.specs.Outside.{Rose, LeavesRest, TookCount}
 use Rattle.tty_calls.specs.declared.journals.PortRun.{PortRun}
-use Rattle.tty_calls.specs.Sessions.{PlainSession}
+use Rattle.tty_calls.specs.declared.sessions.Session.{Session}
+use Rattle.tty_calls.specs.Sessions.{PlainSession, session_of}
 use Rattle.session_text.specs.declared.faults.BadLine.{BadLine}
 use Rattle.session_text.specs.Refusals.{refusal}
 use Rattle.session_text.specs.Grammar.{Spells}
 use Rattle.session_text.proofs.Spelled.{spelled_fault}
 use Rattle.vt_text.specs.Sessions.{PlainVtSession}
 use Rattle.tty_one.specs.declared.words.Command.{Command}
-use Rattle.tty_one.specs.declared.words.Command.TheVariants.{Run, RunOne, Jobs, Gen, Check, Vt, VtOne}
+use Rattle.tty_one.specs.declared.words.Command.TheVariants.{Run, RunOne, Modem, Jobs, Gen, Check, Vt, VtOne}
 use Rattle.tty_one.specs.declared.playing.Telling.{Telling}
 use Rattle.tty_one.specs.declared.playing.Telling.TheVariants.{Report}
 use Rattle.tty_one.specs.declared.works.Ran.{Ran}
 use Rattle.tty_one.specs.declared.works.Work.{Work}
 use Rattle.tty_one.specs.declared.works.Ending.{Ending}
 use Rattle.tty_one.specs.declared.works.Ending.TheVariants.{Done, BadSession, BadWords, ReadFault, TooLong, NotLegal}
-use Rattle.tty_one.specs.Endings.{Ask, AskRun, AskRunOne, AskCheck, AskJobs, AskVt, AskVtOne, AskOneToRead}
+use Rattle.tty_one.specs.Endings.{Ask, AskRun, AskRunOne, AskCheck, AskModem, AskJobs, AskVt, AskVtOne, AskOneToRead}
 use Rattle.tty_one.specs.Endings.{AskConsoles, AskToPlay, IsStatusOr, IsOfOne}
 use Rattle.tty_one.specs.Endings.{AreKnown, AreOfOne, AreOnThreads, IsOnThreads, AreRun, AreRunOne, AreGen}
 use Rattle.tty_one.specs.Endings.{line_of, status_of, text_of, bad_session_line, IsOfSource, IsTold}
@@ -29,48 +31,36 @@ use Rattle.job_text.specs.Reading.{jobs_in}
 use Rattle.job_text.specs.Sessions.{JobsSession}
 use Rattle.tty_one.specs.Processes.{bare_of, fault_in as fault_of_processes}
 use Rattle.tty_one.specs.Processes.{processes_refusal, IsToldOfProcesses, CompletesProcesses}
+use Rattle.modem_text.specs.Sessions.{ModemSession}
+use Rattle.tty_one.specs.ModemLines.{SpellsModemLines, fault_in as fault_of_modem_lines}
+use Rattle.tty_one.specs.ModemLines.{modem_lines_refusal, IsToldOfModemLines, CompletesModemLines}
 use Rattle.tty_one.specs.Outcome.{IsPlayedText, IsRefused, IsToldBy, refusal_by, Completes, CompletesCheck, WasGiven}
 use Rattle.tty_one.specs.Outcome.{WasGivenFront, IsDone, IsToldRefused, IsToldIllegal, IsBroken}
 use Rattle.tty_one.specs.Outcome.{breaks_fault, breaks_long, breaks_refusal, breaks_text, breaks_verdict}
-use Rattle.tty_one.specs.Works.{brought, IsIllegalBy, IsWork, HasEntries, HasLog, CanEnd, ReadsNothing}
+use Rattle.tty_one.specs.Works.{brought, IsIllegalBy, IsWork, HasOwn, CanEnd, ReadsNothing}
 use Rattle.tty_one.proofs.Judged.{completes_check}
 
 -- what the work brought is what is returned
 pub work_with : (command : Command) (left : Option (List ℕ)) (e : Ending) (ran : Ran) (work : Work)
-    → ran.runs ≡ work.runs
-    → ran.vt ≡ work.vt
-    → ran.jobs ≡ work.jobs
+    → returned ran ≡ brought work
     → IsWork command left e (brought work)
     → IsWork command left e (returned ran)
-work_with command left e ran work runs entries log done =
-    let same : brought work ≡ returned ran = λ i.
-    record { runs = (sym runs i).items; entries = (sym entries i).items; log = (sym log i).items } in
-    subst (IsWork command left e) same done
+work_with command left e ran work same done = subst (IsWork command left e) (sym same) done
 
 -- work that ended without a run returns nothing
 pub nothing_told : (ran : Ran) (work : Work) (e : Ending)
-    → ran.runs ≡ work.runs
-    → ran.vt ≡ work.vt
-    → ran.jobs ≡ work.jobs
+    → returned ran ≡ brought work
     → work
     ≡ record {
       ending = e;
       runs = record { items = []; spare = 0 };
       vt = record { items = []; spare = 0 };
+      modem = record { items = []; spare = 0 };
       jobs = record { items = []; spare = 0 };
+      derived = None;
     }
     → returned ran ≡ nothing
-nothing_told ran work e runs entries log same = λ i.
-    record { runs = (runs_are i).items; entries = (entries_are i).items; log = (log_is i).items }
-  where
-    runs_are : ran.runs ≡ record { items = []; spare = 0 }
-    runs_are = runs ∙ ap (λ (w : Work). w.runs) same
-
-    entries_are : ran.vt ≡ record { items = []; spare = 0 }
-    entries_are = entries ∙ ap (λ (w : Work). w.vt) same
-
-    log_is : ran.jobs ≡ record { items = []; spare = 0 }
-    log_is = log ∙ ap (λ (w : Work). w.jobs) same
+nothing_told ran work e same none = same ∙ ap brought none
 
 -- ---- which words ask for what
 
@@ -80,104 +70,93 @@ same_heads a b as' bs h = cc
 same_tails : (a b : List ℕ) (as' bs : List (List ℕ)) → a ∷ as' ≡ b ∷ bs → as' ≡ bs
 same_tails a b as' bs h = cc
 
-gen_differs : codes "gen" ≡ codes "run" → ⊥
-gen_differs h = let first : 103 ≡ 114 = ap (λ word. get_or word 0 0) h in omega (arith, first)
+-- the words of most commands begin with a letter of their own
+abbrev letter : List (List ℕ) → ℕ
+letter [] = 0
+letter (word ∷ words) = get_or word 0 0
 
-gen_is_not_run : (words rest others : List (List ℕ)) → words ≡ codes "gen" ∷ rest → words ≡ codes "run" ∷ others → ⊥
-gen_is_not_run words rest others gen run =
-    gen_differs (same_heads (codes "gen") (codes "run") rest others (sym gen ∙ run))
+abbrev letter_of : Command → ℕ
+letter_of (Run journals) = 114
+letter_of (RunOne journals) = 114
+letter_of Modem = 109
+letter_of Jobs = 106
+letter_of (Gen number) = 103
+letter_of Check = 99
+letter_of Vt = 118
+letter_of VtOne = 118
+
+asked_letter : (command : Command) (words : List (List ℕ)) → Ask command words → letter words ≡ letter_of command
+asked_letter (Run false) words asked = ap letter asked
+asked_letter (Run true) words asked = ap letter asked
+asked_letter (RunOne false) words asked = ap letter asked
+asked_letter (RunOne true) words (inl asked) = ap letter asked
+asked_letter (RunOne true) words (inr asked) = ap letter asked
+asked_letter Modem words asked = ap letter asked
+asked_letter Jobs words asked = ap letter asked
+asked_letter (Gen number) words asked = ap letter asked.1
+asked_letter Check words asked = ap letter asked
+asked_letter Vt words asked = ap letter asked
+asked_letter VtOne words asked = ap letter asked
+
+pub other_letter : (command other : Command) (words : List (List ℕ))
+    → (letter_of command ≡ letter_of other → ⊥)
+    → Ask command words
+    → Ask other words
+    → ⊥
+other_letter command other words differ asked asks =
+    differ (sym (asked_letter command words asked) ∙ asked_letter other words asks)
 
 pub not_gen_and_one : (words : List (List ℕ)) (journals : Bool) → AreGen words → AskRunOne journals words → ⊥
-not_gen_and_one words false gen run = gen_is_not_run words (gen.1.0 ∷ []) (codes "--one" ∷ []) gen.1.1 run
-not_gen_and_one words true gen (inl run) =
-    gen_is_not_run words (gen.1.0 ∷ []) (codes "--one" ∷ codes "--journal" ∷ []) gen.1.1 run
-not_gen_and_one words true gen (inr run) =
-    gen_is_not_run words (gen.1.0 ∷ []) (codes "--journal" ∷ codes "--one" ∷ []) gen.1.1 run
+not_gen_and_one words journals gen run =
+    other_letter (Gen gen.0) (RunOne journals) words (λ e. omega (arith, e)) gen.1 run
 
 pub not_gen_and_run : (words : List (List ℕ)) (journals : Bool) → AreGen words → AskRun journals words → ⊥
-not_gen_and_run words false gen run = gen_is_not_run words (gen.1.0 ∷ []) [] gen.1.1 run
-not_gen_and_run words true gen run = gen_is_not_run words (gen.1.0 ∷ []) (codes "--journal" ∷ []) gen.1.1 run
+not_gen_and_run words journals gen run = other_letter (Gen gen.0) (Run journals) words (λ e. omega (arith, e)) gen.1 run
 
 pub not_check_and_gen : (words : List (List ℕ)) → AreGen words → AskCheck words → ⊥
-not_check_and_gen words gen check = let same : 2 ≡ 1 = ap length (sym gen.1.1 ∙ check) in omega (arith, same)
+not_check_and_gen words gen check = other_letter (Gen gen.0) Check words (λ e. omega (arith, e)) gen.1 check
 
 pub not_check_and_one : (words : List (List ℕ)) (journals : Bool) → AskCheck words → AskRunOne journals words → ⊥
-not_check_and_one words false check run = let same : 2 ≡ 1 = ap length (sym run ∙ check) in omega (arith, same)
-not_check_and_one words true check (inl run) = let same : 3 ≡ 1 = ap length (sym run ∙ check) in omega (arith, same)
-not_check_and_one words true check (inr run) = let same : 3 ≡ 1 = ap length (sym run ∙ check) in omega (arith, same)
-
-check_differs : codes "check" ≡ codes "run" → ⊥
-check_differs h = let first : 99 ≡ 114 = ap (λ word. get_or word 0 0) h in omega (arith, first)
+not_check_and_one words journals check run =
+    other_letter Check (RunOne journals) words (λ e. omega (arith, e)) check run
 
 pub not_check_and_run : (words : List (List ℕ)) (journals : Bool) → AskCheck words → AskRun journals words → ⊥
-not_check_and_run words false check run =
-    check_differs (same_heads (codes "check") (codes "run") [] [] (sym check ∙ run))
-not_check_and_run words true check run = let same : 2 ≡ 1 = ap length (sym run ∙ check) in omega (arith, same)
+not_check_and_run words journals check run = other_letter Check (Run journals) words (λ e. omega (arith, e)) check run
+
+pub not_jobs_and_one : (words : List (List ℕ)) (journals : Bool) → AskJobs words → AskRunOne journals words → ⊥
+not_jobs_and_one words journals jobs run = other_letter Jobs (RunOne journals) words (λ e. omega (arith, e)) jobs run
+
+pub not_jobs_and_run : (words : List (List ℕ)) (journals : Bool) → AskJobs words → AskRun journals words → ⊥
+not_jobs_and_run words journals jobs run = other_letter Jobs (Run journals) words (λ e. omega (arith, e)) jobs run
+
+pub not_jobs_and_gen : (words : List (List ℕ)) → AskJobs words → AreGen words → ⊥
+not_jobs_and_gen words jobs gen = other_letter Jobs (Gen gen.0) words (λ e. omega (arith, e)) jobs gen.1
+
+pub not_jobs_and_check : (words : List (List ℕ)) → AskJobs words → AskCheck words → ⊥
+not_jobs_and_check words jobs check = other_letter Jobs Check words (λ e. omega (arith, e)) jobs check
+
+pub not_jobs_and_vt : (words : List (List ℕ)) → AskJobs words → AskConsoles words → ⊥
+not_jobs_and_vt words jobs (inl vt) = other_letter Jobs Vt words (λ e. omega (arith, e)) jobs vt
+not_jobs_and_vt words jobs (inr vt) = other_letter Jobs VtOne words (λ e. omega (arith, e)) jobs vt
+
+pub not_vt_and_one : (words : List (List ℕ)) (journals : Bool) → AskConsoles words → AskRunOne journals words → ⊥
+not_vt_and_one words journals (inl vt) run = other_letter Vt (RunOne journals) words (λ e. omega (arith, e)) vt run
+not_vt_and_one words journals (inr vt) run = other_letter VtOne (RunOne journals) words (λ e. omega (arith, e)) vt run
+
+pub not_vt_and_run : (words : List (List ℕ)) (journals : Bool) → AskConsoles words → AskRun journals words → ⊥
+not_vt_and_run words journals (inl vt) run = other_letter Vt (Run journals) words (λ e. omega (arith, e)) vt run
+not_vt_and_run words journals (inr vt) run = other_letter VtOne (Run journals) words (λ e. omega (arith, e)) vt run
+
+pub not_vt_and_gen : (words : List (List ℕ)) → AskConsoles words → AreGen words → ⊥
+not_vt_and_gen words (inl vt) gen = other_letter Vt (Gen gen.0) words (λ e. omega (arith, e)) vt gen.1
+not_vt_and_gen words (inr vt) gen = other_letter VtOne (Gen gen.0) words (λ e. omega (arith, e)) vt gen.1
+
+pub not_vt_and_check : (words : List (List ℕ)) → AskConsoles words → AskCheck words → ⊥
+not_vt_and_check words (inl vt) check = other_letter Vt Check words (λ e. omega (arith, e)) vt check
+not_vt_and_check words (inr vt) check = other_letter VtOne Check words (λ e. omega (arith, e)) vt check
 
 option_differs : codes "--journal" ≡ codes "--one" → ⊥
 option_differs h = let third : 106 ≡ 111 = ap (λ word. get_or word 2 0) h in omega (arith, third)
-
--- the words of processes begin with another
-jobs_differ : (words others : List (List ℕ)) (w : List ℕ)
-    → AskJobs words
-    → words ≡ w ∷ others
-    → (get_or w 0 0 ≡ 106 → ⊥)
-    → ⊥
-jobs_differ words others w jobs run differs =
-    let first : codes "jobs" ≡ w = same_heads (codes "jobs") w [] others (sym jobs ∙ run) in
-    differs (ap (λ word. get_or word 0 0) (sym first))
-
-pub not_jobs_and_one : (words : List (List ℕ)) (journals : Bool) → AskJobs words → AskRunOne journals words → ⊥
-not_jobs_and_one words false jobs run = jobs_differ words _ (codes "run") jobs run (λ e. omega (arith, e))
-not_jobs_and_one words true jobs (inl run) = jobs_differ words _ (codes "run") jobs run (λ e. omega (arith, e))
-not_jobs_and_one words true jobs (inr run) = jobs_differ words _ (codes "run") jobs run (λ e. omega (arith, e))
-
-pub not_jobs_and_run : (words : List (List ℕ)) (journals : Bool) → AskJobs words → AskRun journals words → ⊥
-not_jobs_and_run words false jobs run = jobs_differ words _ (codes "run") jobs run (λ e. omega (arith, e))
-not_jobs_and_run words true jobs run = jobs_differ words _ (codes "run") jobs run (λ e. omega (arith, e))
-
-pub not_jobs_and_gen : (words : List (List ℕ)) → AskJobs words → AreGen words → ⊥
-not_jobs_and_gen words jobs gen = jobs_differ words _ (codes "gen") jobs gen.1.1 (λ e. omega (arith, e))
-
-pub not_jobs_and_check : (words : List (List ℕ)) → AskJobs words → AskCheck words → ⊥
-not_jobs_and_check words jobs check = jobs_differ words _ (codes "check") jobs check (λ e. omega (arith, e))
-
-pub not_jobs_and_vt : (words : List (List ℕ)) → AskJobs words → AskConsoles words → ⊥
-not_jobs_and_vt words jobs (inl vt) = jobs_differ words _ (codes "vt") jobs vt (λ e. omega (arith, e))
-not_jobs_and_vt words jobs (inr vt) = jobs_differ words _ (codes "vt") jobs vt (λ e. omega (arith, e))
-
--- the words of consoles begin with another
-vt_differs : (words rest others : List (List ℕ)) (w : List ℕ)
-    → words ≡ codes "vt" ∷ rest
-    → words ≡ w ∷ others
-    → (get_or w 0 0 ≡ 118 → ⊥)
-    → ⊥
-vt_differs words rest others w vt run differs =
-    let first : codes "vt" ≡ w = same_heads (codes "vt") w rest others (sym vt ∙ run) in
-    differs (ap (λ word. get_or word 0 0) (sym first))
-
-consoles_differ : (words others : List (List ℕ)) (w : List ℕ)
-    → AskConsoles words
-    → words ≡ w ∷ others
-    → (get_or w 0 0 ≡ 118 → ⊥)
-    → ⊥
-consoles_differ words others w (inl vt) run differs = vt_differs words _ others w vt run differs
-consoles_differ words others w (inr vt) run differs = vt_differs words _ others w vt run differs
-
-pub not_vt_and_one : (words : List (List ℕ)) (journals : Bool) → AskConsoles words → AskRunOne journals words → ⊥
-not_vt_and_one words false vt run = consoles_differ words _ (codes "run") vt run (λ e. omega (arith, e))
-not_vt_and_one words true vt (inl run) = consoles_differ words _ (codes "run") vt run (λ e. omega (arith, e))
-not_vt_and_one words true vt (inr run) = consoles_differ words _ (codes "run") vt run (λ e. omega (arith, e))
-
-pub not_vt_and_run : (words : List (List ℕ)) (journals : Bool) → AskConsoles words → AskRun journals words → ⊥
-not_vt_and_run words false vt run = consoles_differ words _ (codes "run") vt run (λ e. omega (arith, e))
-not_vt_and_run words true vt run = consoles_differ words _ (codes "run") vt run (λ e. omega (arith, e))
-
-pub not_vt_and_gen : (words : List (List ℕ)) → AskConsoles words → AreGen words → ⊥
-not_vt_and_gen words vt gen = consoles_differ words _ (codes "gen") vt gen.1.1 (λ e. omega (arith, e))
-
-pub not_vt_and_check : (words : List (List ℕ)) → AskConsoles words → AskCheck words → ⊥
-not_vt_and_check words vt check = consoles_differ words _ (codes "check") vt check (λ e. omega (arith, e))
 
 pub not_vt_and_vt_one : (words : List (List ℕ)) → AskVt words → AskVtOne words → ⊥
 not_vt_and_vt_one words vt one = let same : 1 ≡ 2 = ap length (sym vt ∙ one) in omega (arith, same)
@@ -193,6 +172,31 @@ not_run_and_one words true false run one = option_differs (same_heads (codes "--
     (same_tails (codes "run") (codes "run") (codes "--journal" ∷ []) (codes "--one" ∷ []) (sym run ∙ one)))
 not_run_and_one words true true run (inl one) = let same : 2 ≡ 3 = ap length (sym run ∙ one) in omega (arith, same)
 not_run_and_one words true true run (inr one) = let same : 2 ≡ 3 = ap length (sym run ∙ one) in omega (arith, same)
+
+-- so those of modem lines are no other command's
+module _ (words : List (List ℕ)) (modem : AskModem words) where
+  pub not_modem_and_run : (journals : Bool) → AskRun journals words → ⊥
+  not_modem_and_run journals asked = other_letter Modem (Run journals) words (λ e. omega (arith, e)) modem asked
+
+  pub not_modem_and_one : (journals : Bool) → AskRunOne journals words → ⊥
+  not_modem_and_one journals asked = other_letter Modem (RunOne journals) words (λ e. omega (arith, e)) modem asked
+
+  pub not_modem_and_jobs : AskJobs words → ⊥
+  not_modem_and_jobs asked = other_letter Modem Jobs words (λ e. omega (arith, e)) modem asked
+
+  pub not_modem_and_gen : AreGen words → ⊥
+  not_modem_and_gen asked = other_letter Modem (Gen asked.0) words (λ e. omega (arith, e)) modem asked.1
+
+  pub not_modem_and_check : AskCheck words → ⊥
+  not_modem_and_check asked = other_letter Modem Check words (λ e. omega (arith, e)) modem asked
+
+  pub not_modem_and_vt : AskConsoles words → ⊥
+  not_modem_and_vt (inl asked) = other_letter Modem Vt words (λ e. omega (arith, e)) modem asked
+  not_modem_and_vt (inr asked) = other_letter Modem VtOne words (λ e. omega (arith, e)) modem asked
+
+  not_modem_and_play : AskToPlay words → ⊥
+  not_modem_and_play (inl run) = not_modem_and_run run.0 run.1
+  not_modem_and_play (inr run) = not_modem_and_one run.0 run.1
 
 -- words that ask for a session to be played ask for nothing else
 not_gen_and_play : (words : List (List ℕ)) → AreGen words → AskToPlay words → ⊥
@@ -215,6 +219,7 @@ not_vt_and_play words vt (inr run) = not_vt_and_one words run.0 vt run.1
 pub run_is_not_one : (words : List (List ℕ)) → AreRun words → AreOfOne words → ⊥
 run_is_not_one words run (Run journals, of_one, asked) = of_one
 run_is_not_one words run (RunOne journals, of_one, asked) = not_run_and_one words run.0 journals run.1 asked
+run_is_not_one words run (Modem, of_one, asked) = not_modem_and_run words asked run.0 run.1
 run_is_not_one words run (Jobs, of_one, asked) = not_jobs_and_run words run.0 asked run.1
 run_is_not_one words run (Gen number, of_one, asked) = not_gen_and_run words run.0 (number, asked) run.1
 run_is_not_one words run (Check, of_one, asked) = not_check_and_run words run.0 asked run.1
@@ -224,6 +229,7 @@ run_is_not_one words run (VtOne, of_one, asked) = not_vt_and_run words run.0 (in
 pub vt_is_not_one : (words : List (List ℕ)) → AskVt words → AreOfOne words → ⊥
 vt_is_not_one words vt (Run journals, of_one, asked) = of_one
 vt_is_not_one words vt (RunOne journals, of_one, asked) = not_vt_and_one words journals (inl vt) asked
+vt_is_not_one words vt (Modem, of_one, asked) = not_modem_and_vt words asked (inl vt)
 vt_is_not_one words vt (Jobs, of_one, asked) = not_jobs_and_vt words asked (inl vt)
 vt_is_not_one words vt (Gen number, of_one, asked) = not_vt_and_gen words (inl vt) (number, asked)
 vt_is_not_one words vt (Check, of_one, asked) = not_vt_and_check words (inl vt) asked
@@ -233,6 +239,7 @@ vt_is_not_one words vt (VtOne, of_one, asked) = not_vt_and_vt_one words vt asked
 pub one_if_not_on_threads : (words : List (List ℕ)) → (AreOnThreads words → ⊥) → AreKnown words → AreOfOne words
 one_if_not_on_threads words other (Run journals, asked) = absurd (other (Run journals, (λ of_one. of_one), asked))
 one_if_not_on_threads words other (RunOne journals, asked) = (RunOne journals, tt, asked)
+one_if_not_on_threads words other (Modem, asked) = (Modem, tt, asked)
 one_if_not_on_threads words other (Jobs, asked) = (Jobs, tt, asked)
 one_if_not_on_threads words other (Gen number, asked) = (Gen number, tt, asked)
 one_if_not_on_threads words other (Check, asked) = (Check, tt, asked)
@@ -250,6 +257,7 @@ pub reads_nothing : (command : Command) (words : List (List ℕ))
     → ReadsNothing command
 reads_nothing (Run journals) words asked gen = absurd (not_gen_and_run words journals gen asked)
 reads_nothing (RunOne journals) words asked gen = absurd (not_gen_and_one words journals gen asked)
+reads_nothing Modem words asked gen = absurd (not_modem_and_gen words asked gen)
 reads_nothing Jobs words asked gen = absurd (not_jobs_and_gen words asked gen)
 reads_nothing (Gen number) words asked gen = tt
 reads_nothing Check words asked gen = absurd (not_check_and_gen words gen asked)
@@ -260,6 +268,7 @@ reads_nothing VtOne words asked gen = absurd (not_vt_and_gen words (inr asked) g
 read_fault_reads : (command : Command) → CanEnd command ReadFault → ReadsNothing command → ⊥
 read_fault_reads (Run journals) can none = none
 read_fault_reads (RunOne journals) can none = none
+read_fault_reads Modem can none = none
 read_fault_reads Jobs can none = none
 read_fault_reads (Gen number) can none = can
 read_fault_reads Check can none = none
@@ -269,6 +278,7 @@ read_fault_reads VtOne can none = none
 long_reads : (command : Command) → CanEnd command TooLong → ReadsNothing command → ⊥
 long_reads (Run journals) can none = none
 long_reads (RunOne journals) can none = none
+long_reads Modem can none = none
 long_reads Jobs can none = none
 long_reads (Gen number) can none = can
 long_reads Check can none = none
@@ -283,11 +293,12 @@ pub one_reads : (command : Command) (words : List (List ℕ))
     → AskOneToRead words
 one_reads (Run journals) words of_one asked some = absurd of_one
 one_reads (RunOne journals) words of_one asked some = inl (inl (journals, asked))
+one_reads Modem words of_one asked some = inr (inr asked)
 one_reads Jobs words of_one asked some = inl (inr asked)
 one_reads (Gen number) words of_one asked some = absurd (some tt)
-one_reads Check words of_one asked some = inr (inl asked)
+one_reads Check words of_one asked some = inr (inl (inl asked))
 one_reads Vt words of_one asked some = absurd of_one
-one_reads VtOne words of_one asked some = inr (inr asked)
+one_reads VtOne words of_one asked some = inr (inl (inr asked))
 
 -- .. and so do those of threads
 pub threads_read : (command : Command) (words : List (List ℕ))
@@ -296,6 +307,7 @@ pub threads_read : (command : Command) (words : List (List ℕ))
     → AreRun words ⊎ AskVt words
 threads_read (Run journals) words on asked = inl (journals, asked)
 threads_read (RunOne journals) words on asked = absurd (on tt)
+threads_read Modem words on asked = absurd (on tt)
 threads_read Jobs words on asked = absurd (on tt)
 threads_read (Gen number) words on asked = absurd (on tt)
 threads_read Check words on asked = absurd (on tt)
@@ -322,6 +334,7 @@ broken_verdict Known Reading words (Run journals) faults faults' left rest befor
     absurd work.1
 broken_verdict Known Reading words (RunOne journals) faults faults' left rest before now back line asked work front =
     absurd work.1
+broken_verdict Known Reading words Modem faults faults' left rest before now back line asked work front = absurd work.1
 broken_verdict Known Reading words Jobs faults faults' left rest before now back line asked work front = absurd work.1
 broken_verdict Known Reading words (Gen number) faults faults' left rest before now back line asked work front =
     absurd work.1
@@ -433,6 +446,7 @@ illegal_line : (words : List (List ℕ)) (command : Command) (left before now : 
     → IsToldIllegal words left before now
 illegal_line words (Run journals) left before now back line asked work given = absurd work.1
 illegal_line words (RunOne journals) left before now back line asked work given = absurd work.1
+illegal_line words Modem left before now back line asked work given = absurd work.1
 illegal_line words Jobs left before now back line asked work given = absurd work.1
 illegal_line words (Gen number) left before now back line asked work given = absurd work.1
 illegal_line words Check left before now back line asked work given =
@@ -650,6 +664,8 @@ completes Asked words (RunOne journals) (Some bytes) rest faults faults' back e 
     = λ asks. by_ending (Completes bytes status) (RunOne journals) bytes faults faults' rest back e status
     (λ zero_is text told. plays_so IsOrdered (Report journals) bytes back text status zero_is told)
     (λ one_is bad refused. refuses_so bytes bad status one_is refused) (λ line none. none) is of done left
+completes Asked words Modem (Some bytes) rest faults faults' back e status plays asked (inl is) of done left = λ asks.
+    absurd (not_modem_and_play words asked (plays asks))
 completes Asked words Jobs (Some bytes) rest faults faults' back e status plays asked (inl is) of done left = λ asks.
     absurd (not_jobs_and_play words asked (plays asks))
 completes Asked words (Gen number) (Some bytes) rest faults faults' back e status plays asked (inl is) of done left =
@@ -675,6 +691,8 @@ judged words (Run journals) (Some bytes) rest faults faults' back e status asked
     absurd (not_check_and_run words journals check asked)
 judged words (RunOne journals) (Some bytes) rest faults faults' back e status asked is of done left = λ check.
     absurd (not_check_and_one words journals check asked)
+judged words Modem (Some bytes) rest faults faults' back e status asked is of done left = λ check.
+    absurd (not_modem_and_check words asked check)
 judged words Jobs (Some bytes) rest faults faults' back e status asked is of done left = λ check.
     absurd (not_jobs_and_check words asked check)
 judged words (Gen number) (Some bytes) rest faults faults' back e status asked is of done left = λ check.
@@ -742,6 +760,8 @@ completes_consoles Asked words (Run journals) (Some bytes) rest faults faults' b
     left = λ asks. absurd (not_vt_and_run words journals (vt asks) asked)
 completes_consoles Asked words (RunOne journals) (Some bytes) rest faults faults' back e status vt asked (inl is) of
     done left = λ asks. absurd (not_vt_and_one words journals (vt asks) asked)
+completes_consoles Asked words Modem (Some bytes) rest faults faults' back e status vt asked (inl is) of done left =
+    λ asks. absurd (not_modem_and_vt words asked (vt asks))
 completes_consoles Asked words Jobs (Some bytes) rest faults faults' back e status vt asked (inl is) of done left =
     λ asks. absurd (not_jobs_and_vt words asked (vt asks))
 completes_consoles Asked words (Gen number) (Some bytes) rest faults faults' back e status vt asked (inl is) of done
@@ -818,6 +838,8 @@ completes_processes words (Run journals) (Some bytes) rest faults faults' back e
     λ jobs. absurd (not_jobs_and_run words journals jobs asked)
 completes_processes words (RunOne journals) (Some bytes) rest faults faults' back e status asked (inl is) of done left =
     λ jobs. absurd (not_jobs_and_one words journals jobs asked)
+completes_processes words Modem (Some bytes) rest faults faults' back e status asked (inl is) of done left =
+    λ jobs. absurd (not_modem_and_jobs words asked jobs)
 completes_processes words Jobs (Some bytes) rest faults faults' back e status asked (inl is) of done left =
     λ jobs. by_ending (CompletesProcesses bytes status) Jobs bytes faults faults' rest back e status
     (λ zero_is text told. processes_play bytes back text status zero_is told)
@@ -830,6 +852,95 @@ completes_processes words Vt (Some bytes) rest faults faults' back e status aske
     absurd (not_jobs_and_vt words jobs (inl asked))
 completes_processes words VtOne (Some bytes) rest faults faults' back e status asked (inl is) of done left = λ jobs.
     absurd (not_jobs_and_vt words jobs (inr asked))
+
+-- ---- what a text of ports with modem lines comes to
+
+modem_lines_not_both : (bytes : List ℕ) (session : ModemSession) (bad : BadLine)
+    → SpellsModemLines bytes session
+    → modem_lines_refusal bytes ≡ Some bad
+    → ⊥
+modem_lines_not_both bytes session bad spells refused = none_some bad (sym (ap fault_of_modem_lines spells) ∙ refused)
+
+modem_lines_play : (bytes : List ℕ) (back : Returned) (text : List ℕ) (status : ℕ)
+    → status ≡ 0
+    → IsToldOfModemLines (Some bytes) back text
+    → CompletesModemLines bytes status
+modem_lines_play bytes back text status is h =
+    let spelled : SpellsModemLines bytes h.session =
+    subst (λ (read : List ℕ). SpellsModemLines read h.session) h.whole h.spelled in
+    record {
+      played = λ session spells. inl is;
+      refused = λ bad wrong. absurd (modem_lines_not_both bytes h.session bad spelled wrong);
+    }
+
+modem_lines_refuse : (bytes : List ℕ) (bad : BadLine) (status : ℕ)
+    → status ≡ 1
+    → IsRefused modem_lines_refusal (Some bytes) bad
+    → CompletesModemLines bytes status
+modem_lines_refuse bytes bad status is h =
+    let wrong : modem_lines_refusal bytes ≡ Some bad =
+    subst (λ (text : List ℕ). modem_lines_refusal text ≡ Some bad) h.whole h.refused in
+    record {
+      played = λ session spells. absurd (modem_lines_not_both bytes session bad spells wrong);
+      refused = λ other _. inl is;
+    }
+
+modem_lines_complete : (words : List (List ℕ)) (command : Command) (bytes : List ℕ) (rest : Option (List ℕ))
+    (faults faults' : ℕ) (back : Returned) (e : Ending) (status : ℕ)
+    → Ask command words
+    → status ≡ status_of e
+    → IsOfSource e faults faults' (Some bytes) rest
+    → IsWork command (Some bytes) e back
+    → LeavesRest bytes rest
+    → AskModem words
+    → length bytes ≤ 4194304
+    → (Rose faults faults' → ⊥)
+    → CompletesModemLines bytes status
+modem_lines_complete words (Run journals) bytes rest faults faults' back e status asked is of done left modem =
+    absurd (not_modem_and_run words modem journals asked)
+modem_lines_complete words (RunOne journals) bytes rest faults faults' back e status asked is of done left modem =
+    absurd (not_modem_and_one words modem journals asked)
+modem_lines_complete words Modem bytes rest faults faults' back e status asked is of done left modem =
+    by_ending (CompletesModemLines bytes status) Modem bytes faults faults' rest back e status
+    (λ zero_is text told. modem_lines_play bytes back text status zero_is told)
+    (λ one_is bad refused. modem_lines_refuse bytes bad status one_is refused) (λ line none. none) is of done left
+modem_lines_complete words Jobs bytes rest faults faults' back e status asked is of done left modem =
+    absurd (not_modem_and_jobs words modem asked)
+modem_lines_complete words (Gen number) bytes rest faults faults' back e status asked is of done left modem =
+    absurd (not_modem_and_gen words modem (number, asked))
+modem_lines_complete words Check bytes rest faults faults' back e status asked is of done left modem =
+    absurd (not_modem_and_check words modem asked)
+modem_lines_complete words Vt bytes rest faults faults' back e status asked is of done left modem =
+    absurd (not_modem_and_vt words modem (inl asked))
+modem_lines_complete words VtOne bytes rest faults faults' back e status asked is of done left modem =
+    absurd (not_modem_and_vt words modem (inr asked))
+
+pub completes_modem_lines : (words : List (List ℕ)) (command : Command) (left rest : Option (List ℕ))
+    (faults faults' : ℕ) (back : Returned) (e : Ending) (status : ℕ)
+    → Ask command words
+    → (status ≡ status_of e) ⊎ (status ≡ 4)
+    → IsOfSource e faults faults' left rest
+    → IsWork command left e back
+    → IfSome left (λ bytes. LeavesRest bytes rest)
+    → IfSome left
+    (λ bytes. AskModem words → length bytes ≤ 4194304 → (Rose faults faults' → ⊥) → CompletesModemLines bytes status)
+completes_modem_lines words command None rest faults faults' back e status asked is of done left = left
+completes_modem_lines words command (Some bytes) rest faults faults' back e status asked (inr four) of done left =
+    λ modem short sound. record {
+      played = λ session spells. inr (inl four);
+      refused = λ bad wrong. inr (inl four);
+    }
+completes_modem_lines words command (Some bytes) rest faults faults' back e status asked (inl is) of done left =
+    λ modem short sound.
+    modem_lines_complete words command bytes rest faults faults' back e status asked is of done left modem short sound
+
+-- words that ask for no modem lines
+pub not_modem_lines : (words : List (List ℕ)) (left : Option (List ℕ)) (status : ℕ) (faults faults' : ℕ)
+    → (AskModem words → ⊥)
+    → IfSome left
+    (λ bytes. AskModem words → length bytes ≤ 4194304 → (Rose faults faults' → ⊥) → CompletesModemLines bytes status)
+not_modem_lines words None status faults faults' other = tt
+not_modem_lines words (Some bytes) status faults faults' other = λ modem. absurd (other modem)
 
 -- words that ask for no processes
 pub not_processes : (words : List (List ℕ)) (left : Option (List ℕ)) (status : ℕ) (faults faults' : ℕ)
@@ -861,6 +972,7 @@ pub made : (words : List (List ℕ)) (command : Command) (e : Ending) (status : 
     → IsStatusOr 0 status
 made words (Run journals) e status asked is can = λ gen. absurd (not_gen_and_run words journals gen asked)
 made words (RunOne journals) e status asked is can = λ gen. absurd (not_gen_and_one words journals gen asked)
+made words Modem e status asked is can = λ gen. absurd (not_modem_and_gen words asked gen)
 made words Jobs e status asked is can = λ gen. absurd (not_jobs_and_gen words asked gen)
 made words (Gen number) e status asked is can = λ gen. made_so number e status is can
 made words Check e status asked is can = λ gen. absurd (not_check_and_gen words gen asked)
@@ -884,6 +996,7 @@ pub none_judged : (words : List (List ℕ)) (command : Command) (left : Option (
 none_judged words (Run journals) left back e asked done = λ check. absurd (not_check_and_run words journals check asked)
 none_judged words (RunOne journals) left back e asked done = λ check.
     absurd (not_check_and_one words journals check asked)
+none_judged words Modem left back e asked done = λ check. absurd (not_modem_and_check words asked check)
 none_judged words Jobs left back e asked done = λ check. absurd (not_jobs_and_check words asked check)
 none_judged words (Gen number) left back e asked done = λ check. absurd (not_check_and_gen words (number, asked) check)
 none_judged words Check left back e asked done = λ check. none_at left back e done
@@ -893,30 +1006,66 @@ none_judged words VtOne left back e asked done = λ check. absurd (not_vt_and_ch
 -- only consoles have entries
 pub no_entries : (words : List (List ℕ)) (command : Command) (back : Returned)
     → Ask command words
-    → HasEntries command back
+    → HasOwn command back
     → (AskConsoles words → ⊥)
     → back.entries ≡ []
-no_entries words (Run journals) back asked none other = none
-no_entries words (RunOne journals) back asked none other = none
-no_entries words Jobs back asked none other = none
-no_entries words (Gen number) back asked none other = none
-no_entries words Check back asked none other = none
-no_entries words Vt back asked none other = absurd (other (inl asked))
-no_entries words VtOne back asked none other = absurd (other (inr asked))
+no_entries words (Run journals) back asked own other = own.0
+no_entries words (RunOne journals) back asked own other = own.0
+no_entries words Modem back asked own other = own.0
+no_entries words Jobs back asked own other = own.0
+no_entries words (Gen number) back asked own other = own.0
+no_entries words Check back asked own other = own.0
+no_entries words Vt back asked own other = absurd (other (inl asked))
+no_entries words VtOne back asked own other = absurd (other (inr asked))
 
--- only processes have a log
+-- only ports with modem lines, and processes, have a log
+pub no_modem_log : (words : List (List ℕ)) (command : Command) (back : Returned)
+    → Ask command words
+    → HasOwn command back
+    → (AskModem words → ⊥)
+    → back.modem_log ≡ []
+no_modem_log words (Run journals) back asked own other = own.1
+no_modem_log words (RunOne journals) back asked own other = own.1
+no_modem_log words Modem back asked own other = absurd (other asked)
+no_modem_log words Jobs back asked own other = own.1
+no_modem_log words (Gen number) back asked own other = own.1
+no_modem_log words Check back asked own other = own.1
+no_modem_log words Vt back asked own other = own.0
+no_modem_log words VtOne back asked own other = own.0
+
 pub no_log : (words : List (List ℕ)) (command : Command) (back : Returned)
     → Ask command words
-    → HasLog command back
+    → HasOwn command back
     → (AskJobs words → ⊥)
     → back.log ≡ []
-no_log words (Run journals) back asked none other = none
-no_log words (RunOne journals) back asked none other = none
-no_log words Jobs back asked none other = absurd (other asked)
-no_log words (Gen number) back asked none other = none
-no_log words Check back asked none other = none
-no_log words Vt back asked none other = none
-no_log words VtOne back asked none other = none
+no_log words (Run journals) back asked own other = own.2
+no_log words (RunOne journals) back asked own other = own.2
+no_log words Modem back asked own other = own.1
+no_log words Jobs back asked own other = absurd (other asked)
+no_log words (Gen number) back asked own other = own.2
+no_log words Check back asked own other = own.2
+no_log words Vt back asked own other = own.1
+no_log words VtOne back asked own other = own.1
+
+-- .. and the session that they were played
+pub none_derived : (words : List (List ℕ)) (command : Command) (back : Returned)
+    → Ask command words
+    → HasOwn command back
+    → (AskModem words ⊎ AskJobs words → ⊥)
+    → back.derived ≡ None
+none_derived words (Run journals) back asked own other = own.3
+none_derived words (RunOne journals) back asked own other = own.3
+none_derived words Modem back asked own other = absurd (other (inl asked))
+none_derived words Jobs back asked own other = absurd (other (inr asked))
+none_derived words (Gen number) back asked own other = own.3
+none_derived words Check back asked own other = own.3
+none_derived words Vt back asked own other = own.2
+none_derived words VtOne back asked own other = own.2
+
+-- a session that is none as plain data is none
+pub no_session : (o : Option Session) → option_map session_of o ≡ None → o ≡ None
+no_session None h = refl
+no_session (Some session) h = absurd (cc)
 
 -- nothing is returned beside a status other than 0 and 4
 nothing_at : (command : Command) (left : Option (List ℕ)) (back : Returned) (e : Ending)
@@ -956,6 +1105,9 @@ pub unjudged : (words : List (List ℕ)) (left : Option (List ℕ)) (status : �
     (λ bytes. AskCheck words → length bytes ≤ 4194304 → (Rose faults faults' → ⊥) → CompletesCheck bytes status)
 unjudged words None status faults faults' other = tt
 unjudged words (Some bytes) status faults faults' other = λ check. absurd (other (Check, tt, check))
+
+pub not_one_modem : (words : List (List ℕ)) → (AreOfOne words → ⊥) → AskModem words → ⊥
+not_one_modem words other modem = other (Modem, tt, modem)
 
 pub not_one_jobs : (words : List (List ℕ)) → (AreOfOne words → ⊥) → AskJobs words → ⊥
 not_one_jobs words other jobs = other (Jobs, tt, jobs)

@@ -14,12 +14,13 @@ use Rattle.journal_check.proofs.VerdictLemmas.{one_verdict}
 use Rattle.read_back.proofs.Runs.{are_read_back}
 use Rattle.tty_one.specs.declared.playing.Telling.TheVariants.{Report}
 use Rattle.tty_one.specs.declared.words.Command.{Command}
-use Rattle.tty_one.specs.declared.words.Command.TheVariants.{Run, RunOne, Jobs, Gen, Check, Vt, VtOne}
+use Rattle.tty_one.specs.declared.words.Command.TheVariants.{Run, RunOne, Modem, Jobs, Gen, Check, Vt, VtOne}
 use Rattle.tty_one.specs.Endings.{Ask, AskJournals}
 use Rattle.tty_one.specs.Reported.{Returned, IsOrdered, IsInAnyOrder, IsReported}
 use Rattle.tty_one.specs.Outcome.{IsPlayedText, IsToldBy, IsDone, with_journals, IsReadBack, GaveJournals}
 use Rattle.tty_one.proofs.Judged.{spelled_in, legal_alike}
 use Rattle.tty_one.proofs.Outcomes.{not_gen_and_run, not_gen_and_one, not_check_and_run, not_check_and_one}
+use Rattle.tty_one.proofs.Outcomes.{not_modem_and_one, not_modem_and_run}
 use Rattle.tty_one.proofs.Outcomes.{not_run_and_one, not_jobs_and_run, not_jobs_and_one, not_vt_and_run, not_vt_and_one}
 use Rattle.tty_one.proofs.PortLemmas.{there_too}
 
@@ -103,6 +104,8 @@ told_back words bytes (RunOne false) back text (inr (inl h)) asked told =
 told_back words bytes (RunOne false) back text (inr (inr h)) asked told =
     absurd (not_two words (codes "run" ∷ codes "--one" ∷ []) (codes "run" ∷ codes "--journal" ∷ codes "--one" ∷ [])
     asked h (omega arith))
+told_back words bytes Modem back text (inl h) asked told = absurd (not_modem_and_run words asked true h)
+told_back words bytes Modem back text (inr h) asked told = absurd (not_modem_and_one words asked true h)
 told_back words bytes Jobs back text (inl h) asked told = absurd (not_jobs_and_run words true asked h)
 told_back words bytes Jobs back text (inr h) asked told = absurd (not_jobs_and_one words true asked h)
 told_back words bytes (Gen number) back text (inl h) asked told = absurd (not_gen_and_run words true (number, asked) h)

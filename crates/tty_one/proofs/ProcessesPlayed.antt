@@ -5,7 +5,7 @@ use Rattle.std.proofs.lemmas.List.{length-map}
 use Rattle.tty_base.specs.declared.buffers.NoMemory.{NoMemory}
 use Rattle.tty_calls.specs.declared.answers.PortEnd.{PortEnd}
 use Rattle.tty_calls.specs.declared.journals.PortRun.{PortRun}
-use Rattle.tty_calls.specs.Sessions.{PlainSession}
+use Rattle.tty_calls.specs.Sessions.{PlainSession, session_of}
 use Rattle.session_print.specs.Ends.{PlainEnd, end_of}
 use Rattle.one_thread.specs.Played.{ArePlayed}
 use Rattle.passed_calls.specs.Within.{ArePassedWithin}
@@ -17,7 +17,7 @@ use Rattle.job_text.specs.Sessions.{JobsSession, bare_session_of, jobs_session_o
 use Rattle.job_steps.specs.Derived.{derived}
 use Rattle.job_steps.specs.Order.{AreEventsInTurn}
 use Rattle.job_steps.specs.Steps.{first_state}
-use Rattle.job_one.specs.Played.{derived_with, port_in, AreJobsPlayed, AreNotFull, IsLoggedWhole}
+use Rattle.job_one.specs.Played.{port_in, AreJobsPlayed, AreNotFull, IsLoggedWhole}
 use Rattle.job_ports.specs.declared.running.JobsRan.{JobsRan}
 use Rattle.further_report.specs.Jobs.{jobs_report_text}
 use Rattle.tty_one.specs.declared.words.Command.TheVariants.{Jobs}
@@ -28,7 +28,7 @@ use Rattle.tty_one.specs.Endings.{IsOfSource, IsShort}
 use Rattle.tty_one.specs.Reported.{Returned, IsOrdered, IsWhole, IsToldAs, IsAllOf}
 use Rattle.tty_one.specs.Processes.{bare_of, given_to, AreProcessesPlayed}
 use Rattle.tty_one.specs.Processes.{IsLoggedOn, IsToldOfProcesses, processes_refusal}
-use Rattle.tty_one.specs.Works.{brought, AreProcessesWork, CanProcessesBePlayed}
+use Rattle.tty_one.specs.Works.{brought, AreProcessesWork, CanProcessesBePlayed, IsNeverFull}
 use Rattle.tty_one.specs.Works.{IsProcessesText, IsReportOfProcesses, IsWork}
 use Rattle.tty_one.proofs.Bared.{kept_bare}
 use Rattle.tty_one.proofs.PortLemmas.{each_whole, there_too}
@@ -48,26 +48,29 @@ logged_so : (p : ℕ) (session : JobsSession) (log : JobLog) (run : PortRun)
     → IsLoggedOn p session log run
 logged_so p session log run h = record { whole = h.whole; in_turn = h.in_turn }
 
-module _ (session : JobsSession) (log : JobLog) (runs : List PortRun) (ends : List PortEnd)
-    (can : CanProcessesBePlayed session) (plays : AreJobsPlayed session log runs ends (derived_with session log runs))
+module _ (session : JobsSession) (log : JobLog) (runs : List PortRun) (ends : List PortEnd) (was : PlainSession)
+    (can : CanProcessesBePlayed session) (plays : AreJobsPlayed session log runs ends was)
     (within : ArePassedWithin (given_to session log runs)) where
-  abbrev was : PlainSession
-  was = derived_with session log runs
+  same_ports : session.ports ≡ was.ports
+  same_ports = ap (λ (s : PlainSession). s.ports) (sym plays.is_played)
+
+  never_full : IsNeverFull was
+  never_full = subst IsNeverFull (sym plays.is_played) (can.never_full log runs within)
 
   not_full : AreNotFull runs
   not_full p run is = λ full.
       let end = there_too runs ends p run (plays.runs_of_all ∙ sym plays.ends_of_all) is in
       let on = (plays.each p run end.0 is end.1).played_on in
-      let room = can.never_full log runs within p run on.terminal on.short in
+      let room = never_full p run on.terminal on.short in
       omega (arith, full, room)
 
-  is_derived : was ≡ derived session log
+  pub is_derived : was ≡ derived session log
   is_derived = plays.is_derived not_full
 
   ports_played : ArePlayed was runs ends
   ports_played = record {
-    runs_of_all = plays.runs_of_all;
-    ends_of_all = plays.ends_of_all;
+    runs_of_all = plays.runs_of_all ∙ same_ports;
+    ends_of_all = plays.ends_of_all ∙ same_ports;
     each = λ p run end is at. (plays.each p run end is at).played_on;
   }
 
@@ -75,7 +78,7 @@ module _ (session : JobsSession) (log : JobLog) (runs : List PortRun) (ends : Li
       → slice_get runs p ≡ Some run
       → slice_get (map end_of ends) p ≡ Some plain
       → IsWhole IsOrdered p was run plain
-  wholes = each_whole IsOrdered was runs ends (can.never_full log runs within) ports_played (λ p run is free.
+  wholes = each_whole IsOrdered was runs ends never_full ports_played (λ p run is free.
       let end = there_too runs ends p run (plays.runs_of_all ∙ sym plays.ends_of_all) is in
       (plays.each p run end.0 is end.1).in_order.whole free)
 
@@ -84,8 +87,8 @@ module _ (session : JobsSession) (log : JobLog) (runs : List PortRun) (ends : Li
       → IsToldAs IsOrdered (jobs_report_text (bare_of session) log) was runs text
   told_of text told = record {
     ends = map end_of ends;
-    runs_of_all = plays.runs_of_all;
-    ends_of_all = length-map ends end_of ∙ plays.ends_of_all;
+    runs_of_all = plays.runs_of_all ∙ same_ports;
+    ends_of_all = length-map ends end_of ∙ (plays.ends_of_all ∙ same_ports);
     each = wholes;
     told = told;
   }
@@ -110,10 +113,16 @@ module _ (session : JobsSession) (log : JobLog) (runs : List PortRun) (ends : Li
 -- what a player of processes returned
 module _ (kept : KeptSession) (ran : JobsRan) (can : CanProcessesBePlayed (jobs_session_of kept))
     (plays : AreJobsPlayed (jobs_session_of kept) (map logged_of ran.log.items) ran.runs.items ran.ends.items
-    (derived_with (jobs_session_of kept) (map logged_of ran.log.items) ran.runs.items))
+    (session_of ran.derived))
     (within : ArePassedWithin (given_to (jobs_session_of kept) (map logged_of ran.log.items) ran.runs.items)) where
   abbrev back_of : Returned
-  back_of = record { runs = ran.runs.items; entries = []; log = ran.log.items }
+  back_of = record {
+    runs = ran.runs.items;
+    entries = [];
+    modem_log = [];
+    log = ran.log.items;
+    derived = Some (session_of ran.derived);
+  }
 
   made : (text : List ℕ)
       → text
@@ -125,8 +134,15 @@ module _ (kept : KeptSession) (ran : JobsRan) (can : CanProcessesBePlayed (jobs_
       ap (λ (s : JobsSession). jobs_report_text s log ran.runs.items (map end_of ran.ends.items)) (kept_bare kept) in
       record {
         told =
-            told_derived (jobs_session_of kept) log ran.runs.items ran.ends.items can plays within text (told ∙ same);
-        logged = logs_derived (jobs_session_of kept) log ran.runs.items ran.ends.items can plays within;
+            told_derived (jobs_session_of kept) log ran.runs.items ran.ends.items (session_of ran.derived) can plays
+            within text (told ∙ same);
+        logged =
+            logs_derived (jobs_session_of kept) log ran.runs.items ran.ends.items (session_of ran.derived) can plays
+            within;
+        derives =
+            ap (λ (s : PlainSession). Some s)
+            (is_derived (jobs_session_of kept) log ran.runs.items ran.ends.items (session_of ran.derived) can plays
+            within);
       }
 
   work_at : (e : Ending) (back : Returned)

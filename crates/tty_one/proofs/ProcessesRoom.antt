@@ -1,20 +1,16 @@
 -- No journal of a session of processes is ever full, and a session that a text spells can be played.
-use Rattle.std.proofs.Common.{◌≡◌, ℕ, ◌+◌, ◌*◌, ◌<◌, ◌≤◌, Bool, true, false, if◌then◌else◌}
-use Rattle.std.proofs.Common.{List, [], ◌∷◌, Ok, length, refl, subst, arith}
+use Rattle.std.proofs.Common.{◌≡◌, ℕ, ◌<◌, ◌≤◌, Bool, true, false, if◌then◌else◌}
+use Rattle.std.proofs.Common.{List, [], ◌∷◌, ◌++◌, Ok, length, refl, sym, ap, subst, arith}
 use Rattle.std.specs.Prelude.{All, flat_map}
 use Rattle.std.specs.List.{range_with_len}
 use Rattle.std.proofs.lemmas.List.Elements.{All-nil, All-cons, All-append}
 use Rattle.tty_calls.specs.declared.journals.PortRun.{PortRun}
 use Rattle.tty_calls.specs.Plain.{PlainEntry}
-use Rattle.tty_calls.specs.Limits.{character_count, tick_count}
-use Rattle.tty_calls.specs.Sessions.{scripts_over}
 use Rattle.tty_terminal.specs.Standing.{standing_in, at_first}
 use Rattle.tty_terminal.specs.Terminals.{Terminal}
 use Rattle.journal_check.specs.Short.{IsCutShort}
-use Rattle.journal_bound.specs.Counts.{byte_count_on, call_count_on}
-use Rattle.journal_bound.proofs.Bound.{bounded, few_calls}
 use Rattle.passed_calls.specs.Blocks.{names_on}
-use Rattle.passed_calls.specs.Derived.{Passing}
+use Rattle.passed_calls.specs.Derived.{Passing, passed_phases}
 use Rattle.passed_calls.specs.Within.{ArePassedWithin}
 use Rattle.passed_calls.proofs.Limits.{within_limits}
 use Rattle.job_text.specs.declared.sessions.JobsSession.{JobsSession as KeptSession}
@@ -24,19 +20,20 @@ use Rattle.job_text.specs.Sessions.{JobsSession, bare_session_of, blocks_in, job
 use Rattle.job_text.proofs.Left.{session_within}
 use Rattle.job_steps.specs.Derived.{block_phases, job_call_at, passings_on, plain_call}
 use Rattle.job_one.specs.Played.{answered_by, begun_by, begun_in, derived_with, journal_on}
-use Rattle.job_asked.specs.Asked.{AreOfCalls}
-use Rattle.job_asked.proofs.Mixing.{text_asks_all}
-use Rattle.job_asked.proofs.Passing.{OfCall, asks_no_more, logged_of_calls, plain_from}
+use Rattle.further_asked.specs.Asked.{AskNoMore, AsksWithin, asked_at}
+use Rattle.further_asked.specs.Jobs.{asked_phases}
+use Rattle.further_asked.proofs.Jobs.{asked_blocks_are, call_within, logged_within, text_asks_all}
+use Rattle.further_asked.proofs.Passing.{asks_no_more}
 use Rattle.tty_one.specs.Processes.{bare_of, given_to}
 use Rattle.tty_one.specs.Works.{CanProcessesBePlayed}
 use Rattle.tty_one.proofs.Bared.{kept_bare, within_kept}
-use Rattle.tty_one.proofs.Roomy.{scripts_handed}
+use Rattle.tty_one.proofs.Roomy.{never_full_within}
 
--- ---- what the ports have begun are calls of their callers
+-- ---- what the ports have begun asks no more than the calls of their callers
 
 module _ (session : JobsSession) (log : JobLog) (p : ℕ) (journal : List PlainEntry) where
   abbrev Own : Passing → Type 0
-  Own m = OfCall (job_call_at p session) m
+  Own m = All (AsksWithin (asked_at p (asked_phases session) m.caller m.step)) m.calls
 
   begun_if : (b : Bool) (c : ℕ)
       → All Own (if b
@@ -53,7 +50,7 @@ module _ (session : JobsSession) (log : JobLog) (p : ℕ) (journal : List PlainE
         step = answered_by c (events_on p log);
         calls = plain_call (job_call_at p session c (answered_by c (events_on p log)));
       }) []
-      (plain_from (job_call_at p session c (answered_by c (events_on p log)))) (All-nil Own)
+      (call_within session p c (answered_by c (events_on p log))) (All-nil Own)
   begun_if false c = All-nil Own
 
   begun_all : (callers : List ℕ)
@@ -64,26 +61,11 @@ module _ (session : JobsSession) (log : JobLog) (p : ℕ) (journal : List PlainE
       (flat_map (λ d. begun_by session log p d (standing_in d journal at_first)) callers)
       (begun_if (standing_in c journal at_first).begun c) (begun_all callers)
 
-pub given_of_calls : (session : JobsSession) (log : JobLog) (runs : List PortRun) (p : ℕ)
-    → AreOfCalls p session (given_to session log runs p)
-given_of_calls session log runs p =
-    All-append (OfCall (job_call_at p session)) (passings_on session log p) (begun_in session log p (journal_on runs p))
-    (logged_of_calls session log p)
-    (begun_all session log p (journal_on runs p) (range_with_len 0 (length (names_on p (blocks_in session)))))
+  given_within : AskNoMore p (asked_phases session) (passings_on session log p ++ begun_in session log p journal)
+  given_within = All-append Own (passings_on session log p) (begun_in session log p journal)
+      (logged_within session log p) (begun_all (range_with_len 0 (length (names_on p (blocks_in session)))))
 
 -- ---- a journal
-
--- a journal's bound, where what is asked of the port is no more than the text is long, but for a letter
-few_entries_by : (entries written calls characters ticks long : ℕ)
-    → 16 * entries ≤ 31 * written + 48 * calls + 32 * characters + 16 * ticks + 19504
-    → 2 * written + 3 * calls + 2 * characters ≤ long + 1
-    → long ≤ 4194304
-    → calls ≤ 65536
-    → characters ≤ 262144
-    → ticks ≤ 65536
-    → entries < 4194304
-few_entries_by entries written calls characters ticks long bound asked few k c t =
-    omega (arith, bound, asked, few, k, c, t)
 
 pub processes_never_full : (text : List ℕ) (session : JobsSession) (log : JobLog) (runs : List PortRun) (p : ℕ)
     (run : PortRun) (t : Terminal)
@@ -96,13 +78,11 @@ processes_never_full text session log runs p run t spells few within short =
     let played = derived_with session log runs in
     let of_text = session_within text (bare_of session) spells in
     let limits = within_limits (block_phases session) (given_to session log runs) played refl of_text.blocks within in
-    let asks =
-    asks_no_more session (given_to session log runs) played p refl within (given_of_calls session log runs p) in
-    let written = scripts_handed (scripts_over p played.phases) in
-    few_entries_by (length run.journal.items) (byte_count_on p played.phases) (call_count_on p played.phases)
-    (character_count p played.phases) (tick_count p played.phases) (length text) (bounded p played run t limits short)
-    (omega (arith, asks, text_asks_all text (bare_of session) p spells, written)) few
-    (omega (arith, few_calls p played.phases, limits.few_calls)) (limits.few_characters p) (limits.few_ticks p)
+    let same = ap (passed_phases (given_to session log runs)) (sym (asked_blocks_are session.phases)) in
+    let asks = asks_no_more (asked_phases session) (given_to session log runs) played p same within
+    (given_within session log p (journal_on runs p)) in
+    never_full_within text p played run t limits
+    (omega (arith, asks, text_asks_all text (bare_of session) p spells)) few short
 
 -- ---- a session that is kept
 

@@ -1,5 +1,5 @@
 -- What was read, and how work ends for want of it.
-use Rattle.std.proofs.Common.{◌≡◌, ◌≤◌, ℕ, List, [], Option, Some, Result, Ok, Err, length, refl, sym, subst}
+use Rattle.std.proofs.Common.{◌≡◌, ◌≤◌, ℕ, List, [], Option, None, Some, Result, Ok, Err, length, refl, sym, subst}
 use Rattle.std.specs.Prelude.{IfOk, OnErr}
 use Rattle.tty_base.specs.Contents.{Contents}
 use Rattle.tty_base.specs.declared.buffers.NoMemory.{NoMemory}
@@ -116,7 +116,9 @@ pub ended_works : (command : Command) (faults now : ℕ) (left rest : Option (Li
       ending = e;
       runs = record { items = []; spare = 0 };
       vt = record { items = []; spare = 0 };
+      modem = record { items = []; spare = 0 };
       jobs = record { items = []; spare = 0 };
+      derived = None;
     }
     → IsWork command left e nothing
     → IsOfSource e faults now left rest

@@ -1,5 +1,5 @@
 -- No journal of a session that a text spells is ever full.
-use Rattle.std.proofs.Common.{ℕ, ◌<◌, ◌≤◌, List, [], ◌∷◌, length, arith}
+use Rattle.std.proofs.Common.{ℕ, ◌+◌, ◌*◌, ◌<◌, ◌≤◌, List, [], ◌∷◌, length, arith}
 use Rattle.std.specs.Prelude.{sum_by}
 use Rattle.std.proofs.lemmas.List.Sums.{sum_by-cons}
 use Rattle.tty_calls.specs.declared.journals.PortRun.{PortRun}
@@ -7,14 +7,15 @@ use Rattle.tty_calls.specs.Plain.{PlainCall, opens, closes, reads, writes, gets_
 use Rattle.tty_calls.specs.Plain.{sets_disc, flushes, steers, counts_input, counts_output, excludes, admits}
 use Rattle.tty_calls.specs.Plain.{drains, gets_counts, hangs_up, sends_packet, takes_packet}
 use Rattle.tty_calls.specs.Sessions.{PlainScript, PlainSession, scripts_over}
-use Rattle.tty_calls.specs.Limits.{byte_count}
+use Rattle.tty_calls.specs.Limits.{IsWithinLimits, byte_count, character_count, tick_count}
+use Rattle.session_text.specs.Asked.{asked_of}
 use Rattle.session_text.specs.Grammar.{Spells}
 use Rattle.session_text.proofs.TextAsks.{text_asks}
 use Rattle.session_text.proofs.Within.{spelled_within}
 use Rattle.tty_terminal.specs.Terminals.{Terminal}
 use Rattle.journal_check.specs.Short.{IsCutShort}
-use Rattle.journal_bound.specs.Counts.{written_count}
-use Rattle.journal_bound.proofs.Bound.{never_full}
+use Rattle.journal_bound.specs.Counts.{byte_count_on, call_count_on, written_count}
+use Rattle.journal_bound.proofs.Bound.{bounded, few_calls, never_full}
 
 -- what is written is handed over
 handed : (call : PlainCall) → written_count call ≤ byte_count call
@@ -51,6 +52,31 @@ scripts_handed (script ∷ scripts) =
     let written = sum_by-cons (λ (s : PlainScript). sum_by written_count s.calls) script scripts in
     let all = sum_by-cons (λ (s : PlainScript). sum_by byte_count s.calls) script scripts in
     omega (arith, written, all, calls_handed script.calls, scripts_handed scripts)
+
+-- a journal's bound, where what is asked of the port is no more than the text is long, but for a letter
+few_entries_by : (entries written calls characters ticks long : ℕ)
+    → 16 * entries ≤ 31 * written + 48 * calls + 32 * characters + 16 * ticks + 19504
+    → 2 * written + 3 * calls + 2 * characters ≤ long + 1
+    → long ≤ 4194304
+    → calls ≤ 65536
+    → characters ≤ 262144
+    → ticks ≤ 65536
+    → entries < 4194304
+few_entries_by entries written calls characters ticks long bound asked few k c t =
+    omega (arith, bound, asked, few, k, c, t)
+
+pub never_full_within : (text : List ℕ) (p : ℕ) (played : PlainSession) (run : PortRun) (t : Terminal)
+    → IsWithinLimits played
+    → asked_of p played.phases ≤ length text + 1
+    → length text ≤ 4194304
+    → IsCutShort p played run t
+    → length run.journal.items < 4194304
+never_full_within text p played run t limits asks few short =
+    let written = scripts_handed (scripts_over p played.phases) in
+    few_entries_by (length run.journal.items) (byte_count_on p played.phases) (call_count_on p played.phases)
+    (character_count p played.phases) (tick_count p played.phases) (length text) (bounded p played run t limits short)
+    (omega (arith, asks, written)) few
+    (omega (arith, few_calls p played.phases, limits.few_calls)) (limits.few_characters p) (limits.few_ticks p)
 
 pub never_full_here : (text : List ℕ) (session : PlainSession) (p : ℕ) (run : PortRun) (t : Terminal)
     → Spells text session

@@ -11,7 +11,7 @@ use Rattle.session_print.specs.Lines.{newline}
 use Rattle.journal_check.specs.declared.verdicts.Verdict.{Verdict}
 use Rattle.journal_check.specs.declared.verdicts.Verdict.TheVariants.{Legal, Wrong, Account}
 use Rattle.tty_one.specs.declared.words.Command.{Command}
-use Rattle.tty_one.specs.declared.words.Command.TheVariants.{Run, RunOne, Jobs, Gen, Check, Vt, VtOne}
+use Rattle.tty_one.specs.declared.words.Command.TheVariants.{Run, RunOne, Modem, Jobs, Gen, Check, Vt, VtOne}
 use Rattle.tty_one.specs.declared.works.Ending.{Ending}
 use Rattle.tty_one.specs.declared.works.Ending.TheVariants.{Done, BadSession, BadWords, ReadFault, TooLong, NotLegal}
 
@@ -41,6 +41,10 @@ AskGen number words = (digits : List ℕ) × (words ≡ codes "gen" ∷ digits �
 abbrev pub AskCheck : List (List ℕ) → Type 0
 AskCheck words = words ≡ codes "check" ∷ []
 
+-- the words that ask for a session of ports with modem lines to be read and played on one thread
+abbrev pub AskModem : List (List ℕ) → Type 0
+AskModem words = words ≡ codes "modem" ∷ []
+
 -- the words that ask for a session of processes to be read and played on one thread
 abbrev pub AskJobs : List (List ℕ) → Type 0
 AskJobs words = words ≡ codes "jobs" ∷ []
@@ -56,6 +60,7 @@ AskVtOne words = words ≡ codes "vt" ∷ codes "--one" ∷ []
 abbrev pub Ask : Command → List (List ℕ) → Type 0
 Ask (Run journals) words = AskRun journals words
 Ask (RunOne journals) words = AskRunOne journals words
+Ask Modem words = AskModem words
 Ask Jobs words = AskJobs words
 Ask (Gen number) words = AskGen number words
 Ask Check words = AskCheck words
@@ -66,6 +71,7 @@ Ask VtOne words = AskVtOne words
 abbrev pub IsOfOne : Command → Type 0
 IsOfOne (Run journals) = ⊥
 IsOfOne (RunOne journals) = Unit {0}
+IsOfOne Modem = Unit {0}
 IsOfOne Jobs = Unit {0}
 IsOfOne (Gen number) = Unit {0}
 IsOfOne Check = Unit {0}
@@ -109,7 +115,7 @@ AskJournals words = AskRun true words ⊎ AskRunOne true words
 
 -- words that ask for a text to be read: without threads, and with them
 abbrev pub AskOneToRead : List (List ℕ) → Type 0
-AskOneToRead words = (AreRunOne words ⊎ AskJobs words) ⊎ (AskCheck words ⊎ AskVtOne words)
+AskOneToRead words = (AreRunOne words ⊎ AskJobs words) ⊎ ((AskCheck words ⊎ AskVtOne words) ⊎ AskModem words)
 
 abbrev pub AskToRead : List (List ℕ) → Type 0
 AskToRead words = (AreRun words ⊎ AskVt words) ⊎ AskOneToRead words

@@ -23,12 +23,13 @@ use Rattle.journal_check.specs.Verdicts.{AreLegal, Fits}
 use Rattle.journal_check.specs.declared.verdicts.Verdict.{Verdict}
 use Rattle.journal_check.specs.declared.verdicts.Verdict.TheVariants.{Legal}
 use Rattle.tty_one.specs.declared.words.Command.{Command}
-use Rattle.tty_one.specs.declared.words.Command.TheVariants.{Run, RunOne, Jobs, Gen, Check, Vt, VtOne}
+use Rattle.tty_one.specs.declared.words.Command.TheVariants.{Run, RunOne, Modem, Jobs, Gen, Check, Vt, VtOne}
 use Rattle.tty_one.specs.declared.playing.Telling.TheVariants.{Report, Summary}
 use Rattle.tty_one.specs.Endings.{Ask, line_of, bad_session_line, verdict_line, IsStatusOr}
 use Rattle.tty_one.specs.Reported.{Returned, nothing, IsOrdered, IsInAnyOrder, IsReported, IsAllOf}
 use Rattle.tty_one.specs.Consoles.{AreConsolesInOrder, AreConsolesOnThreads, IsToldOfConsoles, consoles_refusal}
 use Rattle.tty_one.specs.Processes.{IsToldOfProcesses, processes_refusal}
+use Rattle.tty_one.specs.ModemLines.{IsToldOfModemLines, modem_lines_refusal}
 
 -- A session was read and played: the text that was read spells it.
 pub record IsPlayedText (left : Option (List ℕ)) (EndsBy : PlainSession → Type 0) : Type 0 where
@@ -62,6 +63,7 @@ IsToldBy (Run journals) left back text =
     IsPlayedText left (λ session. IsReported IsInAnyOrder (Report journals) session back.runs text)
 IsToldBy (RunOne journals) left back text =
     IsPlayedText left (λ session. IsReported IsOrdered (Report journals) session back.runs text)
+IsToldBy Modem left back text = IsToldOfModemLines left back text
 IsToldBy Jobs left back text = IsToldOfProcesses left back text
 IsToldBy (Gen number) left back text = IsReported IsOrdered (Summary number) (generated_session number) back.runs text
 IsToldBy Check left back text = IsToldVerdict left Legal back.runs text
@@ -72,6 +74,7 @@ IsToldBy VtOne left back text = IsToldOfConsoles AreConsolesInOrder left back te
 abbrev pub refusal_by : Command → List ℕ → Option BadLine
 refusal_by (Run journals) text = refusal text
 refusal_by (RunOne journals) text = refusal text
+refusal_by Modem text = modem_lines_refusal text
 refusal_by Jobs text = processes_refusal text
 refusal_by (Gen number) text = None
 refusal_by Check text = refusal_of_runs text

@@ -53,6 +53,7 @@ pub record AreProcessesPlayed (session : JobsSession) (back : Returned) (text : 
   pub told : IsToldAs IsOrdered (jobs_report_text (bare_of session) (log_of back)) (derived session (log_of back))
       back.runs text
   pub logged : (p : ℕ) (run : PortRun) → slice_get back.runs p ≡ Some run → IsLoggedOn p session (log_of back) run
+  pub derives : back.derived ≡ Some (derived session (log_of back))
 
 -- the text that was read spells a session of processes, which was played
 pub record IsToldOfProcesses (left : Option (List ℕ)) (back : Returned) (text : List ℕ) : Type 0 where

@@ -1,7 +1,7 @@
 -- What is told of a session that was played: of its runs, each of them whole, and of their ends.
-use Rattle.std.specs.Prelude.{◌<◌, ◌≡◌, ℕ, List, [], Option, Some, length, slice_get, IfSome}
+use Rattle.std.specs.Prelude.{◌<◌, ◌≡◌, ℕ, List, [], Option, None, Some, length, option_map, slice_get, IfSome}
 use Rattle.tty_calls.specs.declared.journals.PortRun.{PortRun}
-use Rattle.tty_calls.specs.Sessions.{PlainSession}
+use Rattle.tty_calls.specs.Sessions.{PlainSession, session_of}
 use Rattle.tty_terminal.specs.Terminals.{Terminal}
 use Rattle.session_print.specs.Ends.{PlainEnd}
 use Rattle.session_print.specs.Report.{play_text}
@@ -9,24 +9,33 @@ use Rattle.session_print.specs.Summary.{summary_text}
 use Rattle.journal_check.specs.Legal.{IsLegal}
 use Rattle.one_thread.specs.Order.{IsInOneOrder}
 use Rattle.passed_calls.specs.declared.logs.Logged.{Logged}
+use Rattle.modem_text.specs.declared.logs.ModemEvent.{ModemEvent}
 use Rattle.job_text.specs.declared.logs.JobEvent.{JobEvent}
 use Rattle.vt_consoles.specs.declared.entries.VtEntry.{VtEntry}
 use Rattle.tty_one.specs.declared.works.Ran.{Ran}
 use Rattle.tty_one.specs.declared.playing.Telling.{Telling}
 use Rattle.tty_one.specs.declared.playing.Telling.TheVariants.{Report, Summary}
 
--- what a call returns beside its status: the runs of ports or of consoles, the entries of a board, and the log of
--- processes
+-- what a call returns beside its status: the runs of ports or of consoles, the entries of a board, the logs of ports
+-- with modem lines and of processes, and the session that these were played
 pub record Returned : Type 0 where
   pub runs : List PortRun
   pub entries : List VtEntry
+  pub modem_log : List (Logged ModemEvent)
   pub log : List (Logged JobEvent)
+  pub derived : Option PlainSession
 
 abbrev pub returned : Ran → Returned
-returned ran = record { runs = ran.runs.items; entries = ran.vt.items; log = ran.jobs.items }
+returned ran = record {
+  runs = ran.runs.items;
+  entries = ran.vt.items;
+  modem_log = ran.modem.items;
+  log = ran.jobs.items;
+  derived = option_map session_of ran.derived;
+}
 
 abbrev pub nothing : Returned
-nothing = record { runs = []; entries = []; log = [] }
+nothing = record { runs = []; entries = []; modem_log = []; log = []; derived = None }
 
 -- what a report says of the end of a terminal
 abbrev pub end_at : Terminal → PlainEnd

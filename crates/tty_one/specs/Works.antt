@@ -1,5 +1,5 @@
 -- What the work on a command came to, by its ending and its runs: for the functions below the top calls.
-use Rattle.std.specs.Prelude.{◌≡◌, ◌≢◌, ◌≤◌, ◌<◌, ℕ, List, [], Option, Some, length, map}
+use Rattle.std.specs.Prelude.{◌≡◌, ◌≢◌, ◌≤◌, ◌<◌, ℕ, List, [], Option, None, Some, length, map, option_map}
 use Rattle.tty_base.specs.Contents.{Contents}
 use Rattle.tty_calls.specs.declared.journals.PortRun.{PortRun}
 use Rattle.tty_calls.specs.declared.sessions.Session.{Session}
@@ -21,7 +21,14 @@ use Rattle.job_text.specs.Sessions.{JobsSession, bare_session_of}
 use Rattle.job_text.specs.Within.{IsJobsSessionWithin}
 use Rattle.job_one.specs.Played.{derived_with}
 use Rattle.job_ports.specs.declared.running.JobsRan.{JobsRan}
+use Rattle.modem_text.specs.declared.sessions.ModemSession.{ModemSession as KeptModemSession}
+use Rattle.modem_text.specs.Events.{ModemLog, logged_of as event_logged}
+use Rattle.modem_text.specs.Sessions.{ModemSession, modem_session_of}
+use Rattle.modem_text.specs.Within.{IsModemSessionWithin}
+use Rattle.modem_one.specs.Played.{derived_with as derived_with_lines}
+use Rattle.modem_ports.specs.declared.running.ModemRan.{ModemRan}
 use Rattle.further_report.specs.Jobs.{jobs_report_text}
+use Rattle.further_report.specs.Modem.{modem_report_text}
 use Rattle.vt_consoles.specs.declared.entries.VtEntry.{VtEntry}
 use Rattle.vt_text.specs.declared.sessions.VtSession.{VtSession}
 use Rattle.vt_text.specs.Sessions.{PlainVtSession, vt_session_of}
@@ -30,7 +37,7 @@ use Rattle.vt_account.specs.Keyed.{IsWithinKeys, keyed}
 use Rattle.vt_report.specs.Report.{report_text}
 use Rattle.vt_one.specs.declared.playing.VtPlayed.{VtPlayed}
 use Rattle.tty_one.specs.declared.words.Command.{Command}
-use Rattle.tty_one.specs.declared.words.Command.TheVariants.{Run, RunOne, Jobs, Gen, Check, Vt, VtOne}
+use Rattle.tty_one.specs.declared.words.Command.TheVariants.{Run, RunOne, Modem, Jobs, Gen, Check, Vt, VtOne}
 use Rattle.tty_one.specs.declared.playing.Telling.{Telling}
 use Rattle.tty_one.specs.declared.reading.Reading.{Reading}
 use Rattle.tty_one.specs.declared.reading.Reading.TheVariants.{Of, Ended}
@@ -41,11 +48,19 @@ use Rattle.tty_one.specs.Endings.{bad_session_line, verdict_line, IsShort, IsOfS
 use Rattle.tty_one.specs.Reported.{Returned, nothing, text_by, IsReported, IsAllOf}
 use Rattle.tty_one.specs.Consoles.{SpellsConsoles, consoles_refusal}
 use Rattle.tty_one.specs.Processes.{given_to, AreProcessesPlayed, IsToldOfProcesses, processes_refusal}
+use Rattle.tty_one.specs.ModemLines.{given_to as given_with_lines, modem_lines_refusal}
+use Rattle.tty_one.specs.ModemLines.{AreModemLinesPlayed, SpellsModemLines}
 use Rattle.tty_one.specs.Outcome.{IsToldVerdict, IsToldBy, IsRefused, refusal_by}
 
 -- what comes of work beside its ending
 abbrev pub brought : Work → Returned
-brought work = record { runs = work.runs.items; entries = work.vt.items; log = work.jobs.items }
+brought work = record {
+  runs = work.runs.items;
+  entries = work.vt.items;
+  modem_log = work.modem.items;
+  log = work.jobs.items;
+  derived = option_map session_of work.derived;
+}
 
 -- ---- reading
 
@@ -97,18 +112,24 @@ IsRead SpellsIt first_wrong (Of session) faults now left rest =
 IsRead SpellsIt first_wrong (Ended ending) faults now left rest =
     IsUnread first_wrong left ending × IsOfSource ending faults now left rest
 
--- a session that a text spells, and a session of consoles
+-- a session that a text spells, one of consoles, and one of ports with modem lines
 abbrev pub SpellsKept : List ℕ → Session → Type 0
 SpellsKept text session = Spells text (session_of session)
 
 abbrev pub SpellsKeptConsoles : List ℕ → VtSession → Type 0
 SpellsKeptConsoles text session = SpellsConsoles text (vt_session_of session)
 
+abbrev pub SpellsKeptModemLines : List ℕ → KeptModemSession → Type 0
+SpellsKeptModemLines text session = SpellsModemLines text (modem_session_of session)
+
 abbrev pub IsSessionRead : Reading Session → ℕ → ℕ → Option (List ℕ) → Option (List ℕ) → Type 0
 IsSessionRead = IsRead SpellsKept refusal
 
 abbrev pub AreConsolesRead : Reading VtSession → ℕ → ℕ → Option (List ℕ) → Option (List ℕ) → Type 0
 AreConsolesRead = IsRead SpellsKeptConsoles consoles_refusal
+
+abbrev pub AreModemLinesRead : Reading KeptModemSession → ℕ → ℕ → Option (List ℕ) → Option (List ℕ) → Type 0
+AreModemLinesRead = IsRead SpellsKeptModemLines modem_lines_refusal
 
 -- how work ends at the first wrong line of a text
 abbrev pub IsRefusal : (List ℕ → Option BadLine) → List ℕ → Ending → Type 0
@@ -129,6 +150,9 @@ IsSessionIn = IsIn SpellsKept refusal
 
 abbrev pub AreConsolesIn : List ℕ → Reading VtSession → Type 0
 AreConsolesIn = IsIn SpellsKeptConsoles consoles_refusal
+
+abbrev pub AreModemLinesIn : List ℕ → Reading KeptModemSession → Type 0
+AreModemLinesIn = IsIn SpellsKeptModemLines modem_lines_refusal
 
 -- ---- playing
 
@@ -246,12 +270,42 @@ IsProcessesText text ReadFault back = ⊥
 IsProcessesText text TooLong back = ⊥
 IsProcessesText text (NotLegal line) back = ⊥
 
+-- ---- modem lines
+
+-- what playing a session of ports with modem lines needs
+pub record CanModemLinesBePlayed (session : ModemSession) : Type 0 where
+  pub within : IsModemSessionWithin session
+  pub never_full : (log : ModemLog) (runs : List PortRun)
+      → ArePassedWithin (given_with_lines session log runs)
+      → IsNeverFull (derived_with_lines session log runs)
+
+-- of a session of ports with modem lines
+abbrev pub AreModemLinesWork : ModemSession → Ending → Returned → Type 0
+AreModemLinesWork session (Done text) back = AreModemLinesPlayed session back text.items
+AreModemLinesWork session (BadSession line) back = ⊥
+AreModemLinesWork session BadWords back = ⊥
+AreModemLinesWork session ReadFault back = ⊥
+AreModemLinesWork session TooLong back = ⊥
+AreModemLinesWork session (NotLegal line) back = ⊥
+
+-- of ports with modem lines that were played
+abbrev pub IsReportOfModemLines : ModemSession → ModemRan → Ending → Type 0
+IsReportOfModemLines session ran (Done text) =
+    text.items
+    ≡ modem_report_text session (map event_logged ran.log.items) ran.runs.items (map end_of ran.ends.items)
+IsReportOfModemLines session ran (BadSession line) = ⊥
+IsReportOfModemLines session ran BadWords = ⊥
+IsReportOfModemLines session ran ReadFault = ⊥
+IsReportOfModemLines session ran TooLong = ⊥
+IsReportOfModemLines session ran (NotLegal line) = ⊥
+
 -- ---- a command
 
 -- only journals that were read can be found not legal
 abbrev pub IsIllegalBy : Command → Option (List ℕ) → List PortRun → List ℕ → Type 0
 IsIllegalBy (Run journals) left runs line = ⊥
 IsIllegalBy (RunOne journals) left runs line = ⊥
+IsIllegalBy Modem left runs line = ⊥
 IsIllegalBy Jobs left runs line = ⊥
 IsIllegalBy (Gen number) left runs line = ⊥
 IsIllegalBy Check left runs line = IsIllegal left runs line
@@ -267,30 +321,32 @@ IsWork command left ReadFault back = back ≡ nothing
 IsWork command left TooLong back = back ≡ nothing
 IsWork command left (NotLegal line) back = (back ≡ nothing) × IsIllegalBy command left back.runs line.items
 
--- only consoles have a board
-abbrev pub HasEntries : Command → Returned → Type 0
-HasEntries (Run journals) back = back.entries ≡ []
-HasEntries (RunOne journals) back = back.entries ≡ []
-HasEntries Jobs back = back.entries ≡ []
-HasEntries (Gen number) back = back.entries ≡ []
-HasEntries Check back = back.entries ≡ []
-HasEntries Vt back = Unit {0}
-HasEntries VtOne back = Unit {0}
+-- beside runs only consoles bring entries, and only ports with modem lines and processes a log, and the session that they
+-- were played
+abbrev pub RunsAlone : Returned → Type 0
+RunsAlone back = (back.entries ≡ []) × (back.modem_log ≡ []) × (back.log ≡ []) × (back.derived ≡ None)
 
--- only processes have a log
-abbrev pub HasLog : Command → Returned → Type 0
-HasLog (Run journals) back = back.log ≡ []
-HasLog (RunOne journals) back = back.log ≡ []
-HasLog Jobs back = Unit {0}
-HasLog (Gen number) back = back.log ≡ []
-HasLog Check back = back.log ≡ []
-HasLog Vt back = back.log ≡ []
-HasLog VtOne back = back.log ≡ []
+abbrev pub of_consoles : List PortRun → List VtEntry → Returned
+of_consoles runs entries = record nothing { runs = runs; entries = entries }
+
+abbrev pub BoardAlone : Returned → Type 0
+BoardAlone back = (back.modem_log ≡ []) × (back.log ≡ []) × (back.derived ≡ None)
+
+abbrev pub HasOwn : Command → Returned → Type 0
+HasOwn (Run journals) back = RunsAlone back
+HasOwn (RunOne journals) back = RunsAlone back
+HasOwn Modem back = (back.entries ≡ []) × (back.log ≡ [])
+HasOwn Jobs back = (back.entries ≡ []) × (back.modem_log ≡ [])
+HasOwn (Gen number) back = RunsAlone back
+HasOwn Check back = RunsAlone back
+HasOwn Vt back = BoardAlone back
+HasOwn VtOne back = BoardAlone back
 
 -- only a command that reads can be refused what it reads
 abbrev pub CanEnd : Command → Ending → Type 0
 CanEnd (Run journals) ending = Unit {0}
 CanEnd (RunOne journals) ending = Unit {0}
+CanEnd Modem ending = Unit {0}
 CanEnd Jobs ending = Unit {0}
 CanEnd (Gen number) (Done report) = Unit {0}
 CanEnd (Gen number) (BadSession line) = ⊥
@@ -306,6 +362,7 @@ CanEnd VtOne ending = Unit {0}
 abbrev pub ReadsNothing : Command → Type 0
 ReadsNothing (Run journals) = ⊥
 ReadsNothing (RunOne journals) = ⊥
+ReadsNothing Modem = ⊥
 ReadsNothing Jobs = ⊥
 ReadsNothing (Gen number) = Unit {0}
 ReadsNothing Check = ⊥

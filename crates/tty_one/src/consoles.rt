@@ -6,11 +6,11 @@ ghost use Rattle.vt_text.specs.Sessions.{vt_session_of};
 ghost use Rattle.tty_one.specs.declared.words.Command.TheVariants.{VtOne};
 ghost use Rattle.tty_one.specs.Consoles.{AreConsolesInOrder};
 ghost use Rattle.tty_one.specs.Endings.{IsShort, IsOfSource};
-ghost use Rattle.tty_one.specs.Works.{brought, AreConsolesIn, AreConsolesRead, CanBePlayed};
-ghost use Rattle.tty_one.specs.Works.{IsConsolesWork, IsReportOf, IsWork};
+ghost use Rattle.tty_one.specs.Works.{brought, AreConsolesIn, AreConsolesRead, BoardAlone, CanBePlayed};
+ghost use Rattle.tty_one.specs.Works.{IsConsolesWork, IsReportOf, IsWork, of_consoles};
 
 use crate::reading::{Reading, read_text, refusal_line};
-use crate::works::{Ending, JobLogs, VtEntries, Work};
+use crate::works::{Ending, JobLogs, ModemLogs, VtEntries, Work};
 use one_thread::Played;
 use session_text::TextFault;
 use std::alloc::Global;
@@ -25,7 +25,7 @@ pub(crate) fn run_vt<S: Source>(alloc: Global, source: &mut S) -> Result<Work, N
     ensures from { IfOk result (λ work.
         IsOfSource work.ending (S.faults source.old) (S.faults source.new) (S.left source.old) (S.left source.new)) }
     ensures work { IfOk result (λ work. IsWork VtOne (S.left source.old) work.ending (brought work)) }
-    ensures no_log { IfOk result (λ work. work.jobs.items ≡ []) }
+    ensures own { IfOk result (λ work. BoardAlone (brought work)) }
     ensures short { OnErr result (IsShort (S.left source.old) (S.left source.new)) }
     ensures rest { IfSome (S.left source.old) (λ bytes. LeavesRest bytes (S.left source.new)) }
 {
@@ -70,7 +70,7 @@ fn run_session(alloc: Global, session: &mut VtSession) -> Result<Work, NoMemory>
     requires { CanBePlayed (vt_session_of session.old) }
     ensures told { IfOk result (λ work.
         IsConsolesWork (AreConsolesInOrder (vt_session_of session.old)) work.ending (brought work)) }
-    ensures no_log { IfOk result (λ work. work.jobs.items ≡ []) }
+    ensures own { IfOk result (λ work. BoardAlone (brought work)) }
 {
     a_played_session_has_the_same_report();
     match play_vt(alloc, session) {
@@ -88,8 +88,8 @@ pub fn work_of_consoles(
 ) -> Result<Work, NoMemory>
     ensures ending { IfOk result (λ work. IsReportOf (vt_session_of session.now) played work.ending) }
     ensures brought { IfOk result (λ work.
-        brought work ≡ record { runs = played.consoles.runs.items; entries = played.board.entries; log = [] }) }
-    ensures no_log { IfOk result (λ work. work.jobs.items ≡ []) }
+        brought work ≡ of_consoles played.consoles.runs.items played.board.entries) }
+    ensures own { IfOk result (λ work. BoardAlone (brought work)) }
 {
     let VtPlayed { board, consoles } = played;
     let Played { runs, ends } = consoles;
@@ -101,6 +101,8 @@ pub fn work_of_consoles(
         ending,
         runs,
         vt,
+        modem: ModemLogs::new(alloc),
         jobs: JobLogs::new(alloc),
+        derived: None,
     })
 }

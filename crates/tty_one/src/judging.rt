@@ -4,7 +4,7 @@ ghost use Rattle.std.specs.Prelude.{◌≡◌, ◌≤◌, [], IfOk, IfSome, OnEr
 ghost use Rattle.tty_base.specs.Outside.{LeavesRest};
 ghost use Rattle.tty_one.specs.Endings.{verdict_line, IsShort, IsOfSource};
 ghost use Rattle.tty_one.specs.declared.words.Command.TheVariants.{Check};
-ghost use Rattle.tty_one.specs.Works.{brought, IsWork, IsJudgedText, IsVerdictEnding};
+ghost use Rattle.tty_one.specs.Works.{brought, IsWork, IsJudgedText, IsVerdictEnding, RunsAlone};
 
 use crate::reading::{Reading, read_text, refusal_line};
 use crate::works::{Ending, Work};
@@ -20,8 +20,7 @@ pub(crate) fn run_check<S: Source>(alloc: Global, source: &mut S) -> Result<Work
         IsOfSource work.ending (S.faults source.old) (S.faults source.new) (S.left source.old) (S.left source.new)) }
     ensures work { IfOk result (λ work. IsWork Check (S.left source.old) work.ending (brought work)) }
     ensures none { IfOk result (λ work. work.runs.items ≡ []) }
-    ensures no_entries { IfOk result (λ work. work.vt.items ≡ []) }
-    ensures no_log { IfOk result (λ work. work.jobs.items ≡ []) }
+    ensures own { IfOk result (λ work. RunsAlone (brought work)) }
     ensures short { OnErr result (IsShort (S.left source.old) (S.left source.new)) }
     ensures rest { IfSome (S.left source.old) (λ bytes. LeavesRest bytes (S.left source.new)) }
 {

@@ -20,12 +20,16 @@ ghost use Rattle.job_text.specs.Events.{JobLog};
 ghost use Rattle.job_text.specs.Reading.{jobs_in};
 ghost use Rattle.job_text.specs.Sessions.{JobsSession};
 ghost use Rattle.job_one.specs.Played.{derived_with};
+ghost use Rattle.modem_text.specs.Events.{ModemLog};
+ghost use Rattle.modem_text.specs.Sessions.{ModemSession};
+ghost use Rattle.modem_one.specs.Played.{derived_with as derived_with_lines};
 ghost use Rattle.vt_text.specs.Sessions.{PlainVtSession};
 ghost use Rattle.vt_account.specs.Account.{IsAccount};
 ghost use Rattle.vt_account.specs.Keyed.{keyed, keys_of};
-ghost use Rattle.tty_one.specs.Endings.{AreRunOne, AreGen, AskJournals, AskVtOne};
+ghost use Rattle.tty_one.specs.Endings.{AreRunOne, AreGen, AskJobs, AskJournals, AskVtOne};
 ghost use Rattle.tty_one.specs.Reported.{Returned, IsReported, IsOrdered, IsInAnyOrder};
-ghost use Rattle.tty_one.specs.Processes.{bare_of, given_to};
+ghost use Rattle.tty_one.specs.Processes.{bare_of, given_to, AreProcessesPlayed};
+ghost use Rattle.tty_one.specs.ModemLines.{SpellsModemLines, given_to as given_with_lines};
 ghost use Rattle.tty_one.specs.Consoles.{AreConsolesInOrder, EachKeyGoes, SpellsConsoles};
 ghost use Rattle.tty_one.specs.Outcome.{IsAnsweredOnce, IsDone, GaveTheSame, TellsEachOnce, IsReadBack, GaveJournals};
 
@@ -101,6 +105,19 @@ pub fn no_journal_of_processes_is_ever_full()
         → length run.journal.items < 4194304 }
 {}
 
+/// A law: no journal of a session of ports with modem lines is ever full. A run of the session that its ports were
+/// played, as far as it went, has fewer entries than that, where at most one call was passed down for each call of a
+/// caller, and for each item of a modem block.
+pub fn no_journal_with_modem_lines_is_ever_full()
+    ensures { (text : List ℕ) (session : ModemSession) (log : ModemLog) (runs : List PortRun) (p : ℕ) (run : PortRun)
+        (t : Terminal)
+        → SpellsModemLines text session
+        → length text ≤ 4194304
+        → ArePassedWithin (given_with_lines session log runs)
+        → IsCutShort p (derived_with_lines session log runs) run t
+        → length run.journal.items < 4194304 }
+{}
+
 /// A law: each key goes to one console, and is received there once. By the account of its board each key of a session
 /// went to one of the consoles; and the characters of a legal run of a console, flushed and dropped, are in order the
 /// keys that went there, without its overruns.
@@ -128,6 +145,22 @@ pub fn consoles_have_one_report()
     ensures read { (words : List (List ℕ)) (bytes before before' : List ℕ) (now now' : Option (List ℕ))
         (back other : Returned)
         → AskVtOne words
+        → IsDone words (Some bytes) (Some before) now back
+        → IsDone words (Some bytes) (Some before') now' other
+        → GaveTheSame before before' now now' }
+{}
+
+/// A law: a session of processes has one report on one thread, whatever stands in the room behind the names of its
+/// processes. So two calls of `tty_one` that ended with 0 gave the same bytes by `jobs` where they read the same text.
+pub fn processes_have_one_report()
+    ensures report { (session again : JobsSession) (back other : Returned) (text told : List ℕ)
+        → bare_of session ≡ bare_of again
+        → AreProcessesPlayed session back text
+        → AreProcessesPlayed again other told
+        → text ≡ told }
+    ensures read { (words : List (List ℕ)) (bytes before before' : List ℕ) (now now' : Option (List ℕ))
+        (back other : Returned)
+        → AskJobs words
         → IsDone words (Some bytes) (Some before) now back
         → IsDone words (Some bytes) (Some before') now' other
         → GaveTheSame before before' now now' }

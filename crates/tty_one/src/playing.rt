@@ -1,6 +1,6 @@
 //! Sessions that are played on one thread, and what is told of them.
 
-ghost use Rattle.std.specs.Prelude.{◌≡◌, [], IfOk, IfSome, OnErr, map};
+ghost use Rattle.std.specs.Prelude.{◌≡◌, IfOk, IfSome, OnErr, map};
 ghost use Rattle.tty_base.specs.Outside.{LeavesRest};
 ghost use Rattle.tty_calls.specs.Limits.{IsWithinLimits};
 ghost use Rattle.tty_calls.specs.Sessions.{session_of};
@@ -10,10 +10,10 @@ ghost use Rattle.tty_one.specs.Endings.{IsShort, IsOfSource};
 ghost use Rattle.tty_one.specs.Reported.{IsOrdered, text_by as text_of_telling};
 ghost use Rattle.tty_one.specs.declared.playing.Telling.TheVariants.{Summary};
 ghost use Rattle.tty_one.specs.declared.words.Command.TheVariants.{RunOne, Gen};
-ghost use Rattle.tty_one.specs.Works.{brought, IsWork, IsSessionWork, IsEndingOf, CanEnd, IsNeverFull};
+ghost use Rattle.tty_one.specs.Works.{brought, IsWork, IsSessionWork, IsEndingOf, CanEnd, IsNeverFull, RunsAlone};
 
 use crate::reading::{Reading, read_session};
-use crate::works::{Ending, JobLogs, VtEntries, Work};
+use crate::works::{Ending, JobLogs, ModemLogs, VtEntries, Work};
 use one_thread::{Played, play};
 use session_gen::make;
 use session_print::{play_text, summary};
@@ -39,8 +39,7 @@ pub(crate) fn run_one<S: Source>(
     ensures from { IfOk result (λ work.
         IsOfSource work.ending (S.faults source.old) (S.faults source.new) (S.left source.old) (S.left source.new)) }
     ensures work { IfOk result (λ work. IsWork (RunOne journals) (S.left source.old) work.ending (brought work)) }
-    ensures no_entries { IfOk result (λ work. work.vt.items ≡ []) }
-    ensures no_log { IfOk result (λ work. work.jobs.items ≡ []) }
+    ensures own { IfOk result (λ work. RunsAlone (brought work)) }
     ensures short { OnErr result (IsShort (S.left source.old) (S.left source.new)) }
     ensures rest { IfSome (S.left source.old) (λ bytes. LeavesRest bytes (S.left source.new)) }
 {
@@ -56,8 +55,7 @@ pub(crate) fn run_number(alloc: Global, number: u32) -> Result<Work, NoMemory>
     ensures played { IfOk result
         (λ work. IsSessionWork IsOrdered (Summary number) (generated_session number) work.ending work.runs.items) }
     ensures can { IfOk result (λ work. CanEnd (Gen number) work.ending) }
-    ensures no_entries { IfOk result (λ work. work.vt.items ≡ []) }
-    ensures no_log { IfOk result (λ work. work.jobs.items ≡ []) }
+    ensures own { IfOk result (λ work. RunsAlone (brought work)) }
 {
     let session = make(alloc, number)?;
     run_session(alloc, Bytes::new(alloc), &session, Telling::Summary(number))
@@ -73,8 +71,7 @@ fn run_session(
     requires { IsWithinLimits (session_of session.now) × IsNeverFull (session_of session.now) }
     ensures played { IfOk result
         (λ work. IsSessionWork IsOrdered telling (session_of session.now) work.ending work.runs.items) }
-    ensures no_entries { IfOk result (λ work. work.vt.items ≡ []) }
-    ensures no_log { IfOk result (λ work. work.jobs.items ≡ []) }
+    ensures own { IfOk result (λ work. RunsAlone (brought work)) }
 {
     let played = play(alloc, session)?;
     work_of(alloc, used, session, played, telling)
@@ -91,8 +88,7 @@ pub fn work_of(
 ) -> Result<Work, NoMemory>
     ensures ending { IfOk result (λ work. IsEndingOf telling (session_of session.now) played work.ending) }
     ensures runs { IfOk result (λ work. work.runs ≡ played.runs) }
-    ensures no_entries { IfOk result (λ work. work.vt.items ≡ []) }
-    ensures no_log { IfOk result (λ work. work.jobs.items ≡ []) }
+    ensures own { IfOk result (λ work. RunsAlone (brought work)) }
 {
     let text = text_by(alloc, used, session, &played, telling)?;
     let Played { runs, ends: _ } = played;
@@ -101,7 +97,9 @@ pub fn work_of(
         ending,
         runs,
         vt: VtEntries::new(alloc),
+        modem: ModemLogs::new(alloc),
         jobs: JobLogs::new(alloc),
+        derived: None,
     })
 }
 

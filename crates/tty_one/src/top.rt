@@ -1,21 +1,23 @@
 //! The top call without threads: it does what the words ask for, and ends with a status.
 
-ghost use Rattle.std.specs.Prelude.{◌≡◌, ◌⊎◌, ◌≢◌, ◌≤◌, [], IfSome, IfOk, OnErr, length};
+ghost use Rattle.std.specs.Prelude.{◌≡◌, ◌⊎◌, ◌≢◌, ◌≤◌, [], None, IfSome, IfOk, OnErr, length};
 ghost use Rattle.tty_base.specs.Outside.{Rose, TookCount, LeavesRest};
-ghost use Rattle.tty_one.specs.Endings.{AreOfOne, IsOfOne, AreRunOne, AreGen, AskCheck, AskJobs, AskVtOne};
+ghost use Rattle.tty_one.specs.Endings.{AreOfOne, IsOfOne, AreRunOne, AreGen, AskCheck, AskModem, AskJobs, AskVtOne};
 ghost use Rattle.tty_one.specs.Endings.{AskOneToRead, IsStatus, IsStatusOr, IsShort, IsOfSource, IsTold, texts_of};
 ghost use Rattle.tty_one.specs.Reported.{nothing, returned};
 ghost use Rattle.tty_one.specs.Consoles.{CompletesConsoles};
 ghost use Rattle.tty_one.specs.Processes.{CompletesProcesses};
+ghost use Rattle.tty_one.specs.ModemLines.{CompletesModemLines};
 ghost use Rattle.tty_one.specs.Outcome.{IsDone, IsToldRefused, IsToldIllegal, IsBroken, Completes, CompletesCheck};
-ghost use Rattle.tty_one.specs.Works.{brought, IsWork, HasEntries, HasLog, CanEnd, ReadsNothing};
+ghost use Rattle.tty_one.specs.Works.{brought, IsWork, HasOwn, CanEnd, ReadsNothing};
 
 use crate::consoles::run_vt;
 use crate::judging::run_check;
+use crate::modems::run_modem;
 use crate::playing::{run_number, run_one};
 use crate::processes::run_jobs;
 use crate::words::{Command, command_of};
-use crate::works::{Ending, JobLogs, Ran, Runs, VtEntries, Work};
+use crate::works::{Ending, Ran, Work};
 use std::alloc::Global;
 use tty_base::{NoMemory, Sink, Source};
 
@@ -27,8 +29,8 @@ use tty_base::{NoMemory, Sink, Source};
 ///
 /// The words are `run --one`, and with journals `run --one --journal` or `run --journal --one`; `gen` with a
 /// number up to 4,294,967,295, whose session is played and nothing read; `check`; and `vt --one`, by which a session of
-/// consoles is read and played; and `jobs`, by which a session of processes is. The words that ask for threads are
-/// other words here.
+/// consoles is read and played; `modem`, by which a session of ports with modem lines is; and `jobs`, by which a session
+/// of processes is. The words that ask for threads are other words here.
 pub fn tty_one<S: Source, K: Sink>(
     alloc: Global,
     words: &[&str],
@@ -53,8 +55,8 @@ pub fn tty_one<S: Source, K: Sink>(
     // legal and in the order of one thread, and the sink was given the text of that session and these
     // runs, or their summary. Or the runs that the text spells are all legal, and it was given that. Or the text
     // spells a session of consoles, and each of them and their board was played likewise. Or it spells a session of
-    // processes: each run is legal, and in that order, for the session that its log passes down to the ports, and the
-    // log has just what job control says.
+    // ports with modem lines, or of processes: each run is legal, and in order, for the session that the log passes down
+    // to the ports, which is returned; and the log has just what the modem lines, or job control, say.
     ensures done { result.status ≡ 0
         → IsDone (texts_of words.now) (S.left source.old) (K.given sink.old) (K.given sink.new) (returned result) }
     // 1: the text that was read is not in its grammar, and the sink was given its first wrong line.
@@ -73,6 +75,8 @@ pub fn tty_one<S: Source, K: Sink>(
     ensures none_judged { AskCheck (texts_of words.now) → result.runs.items ≡ [] }
     ensures no_entries { (AskVtOne (texts_of words.now) → ⊥) → result.vt.items ≡ [] }
     ensures no_log { (AskJobs (texts_of words.now) → ⊥) → result.jobs.items ≡ [] }
+    ensures no_modem_log { (AskModem (texts_of words.now) → ⊥) → result.modem.items ≡ [] }
+    ensures none_derived { (AskModem (texts_of words.now) ⊎ AskJobs (texts_of words.now) → ⊥) → result.derived ≡ None }
     // The source has left an end of what it had left.
     ensures rest { IfSome (S.left source.old) (λ bytes. LeavesRest bytes (S.left source.new)) }
     // Where a session is to be read and reading did not fail, a text that spells a session is played, and
@@ -89,6 +93,9 @@ pub fn tty_one<S: Source, K: Sink>(
     // Likewise a text that spells a session of consoles is played, and one that spells none is refused.
     ensures consoles { IfSome (S.left source.old) (λ bytes. AskVtOne (texts_of words.now) → length bytes ≤ 4194304
         → (Rose (S.faults source.old) (S.faults source.new) → ⊥) → CompletesConsoles bytes result.status) }
+    // .. and a session of ports with modem lines.
+    ensures modem_lines { IfSome (S.left source.old) (λ bytes. AskModem (texts_of words.now) → length bytes ≤ 4194304
+        → (Rose (S.faults source.old) (S.faults source.new) → ⊥) → CompletesModemLines bytes result.status) }
     // .. and a session of processes.
     ensures processes { IfSome (S.left source.old) (λ bytes. AskJobs (texts_of words.now) → length bytes ≤ 4194304
         → (Rose (S.faults source.old) (S.faults source.new) → ⊥) → CompletesProcesses bytes result.status) }
@@ -98,12 +105,7 @@ pub fn tty_one<S: Source, K: Sink>(
     };
     match work_on(alloc, source, command) {
         Ok(work) => work.tell(sink),
-        Err(NoMemory) => Ran {
-            status: 5,
-            runs: Runs::new(alloc),
-            vt: VtEntries::new(alloc),
-            jobs: JobLogs::new(alloc),
-        },
+        Err(NoMemory) => Ran::starved(alloc),
     }
 }
 
@@ -113,8 +115,7 @@ fn work_on<S: Source>(alloc: Global, source: &mut S, command: Command) -> Result
     ensures from { IfOk result (λ work.
         IsOfSource work.ending (S.faults source.old) (S.faults source.new) (S.left source.old) (S.left source.new)) }
     ensures work { IfOk result (λ work. IsWork command (S.left source.old) work.ending (brought work)) }
-    ensures entries { IfOk result (λ work. HasEntries command (brought work)) }
-    ensures log { IfOk result (λ work. HasLog command (brought work)) }
+    ensures own { IfOk result (λ work. HasOwn command (brought work)) }
     ensures can { IfOk result (λ work. CanEnd command work.ending) }
     ensures short { OnErr result (IsShort (S.left source.old) (S.left source.new)) }
     ensures rest { IfSome (S.left source.old) (λ bytes. LeavesRest bytes (S.left source.new)) }
@@ -123,6 +124,7 @@ fn work_on<S: Source>(alloc: Global, source: &mut S, command: Command) -> Result
     match command {
         Command::Run { .. } | Command::Vt => unreachable!(),
         Command::RunOne { journals } => run_one(alloc, source, journals),
+        Command::Modem => run_modem(alloc, source),
         Command::Jobs => run_jobs(alloc, source),
         Command::Gen(number) => run_number(alloc, number),
         Command::Check => run_check(alloc, source),

@@ -15,6 +15,8 @@ pub enum Command {
     Run { journals: bool },
     /// A session is read and played on one thread, and told likewise.
     RunOne { journals: bool },
+    /// A session of ports with modem lines is read and played on one thread, and told.
+    Modem,
     /// A session of processes is read and played on one thread, and told.
     Jobs,
     /// The session of a number is played and summed up.
@@ -34,6 +36,9 @@ pub(crate) fn command_of(words: &[&str]) -> Option<Command>
 {
     if are(words, &["check"]) {
         return Some(Command::Check);
+    }
+    if are(words, &["modem"]) {
+        return Some(Command::Modem);
     }
     if are(words, &["jobs"]) {
         return Some(Command::Jobs);

@@ -1,13 +1,16 @@
 //! How work ends, and how that is told.
 
-ghost use Rattle.std.specs.Prelude.{◌≡◌, ◌⊎◌, ◌≢◌, ◌++◌, [], Some, IfSome};
+ghost use Rattle.std.specs.Prelude.{◌≡◌, ◌⊎◌, ◌≢◌, ◌++◌, [], None, Some, IfSome};
 ghost use Rattle.tty_base.specs.Outside.{Rose, GivesFront};
 ghost use Rattle.tty_one.specs.Endings.{status_of, text_of};
+ghost use Rattle.tty_one.specs.Reported.{returned};
+ghost use Rattle.tty_one.specs.Works.{brought};
 
 use job_text::JobLog;
+use modem_text::ModemLog;
 use std::alloc::Global;
 use tty_base::{Buffer, Bytes, Sink, write_all};
-use tty_calls::PortRun;
+use tty_calls::{PortRun, Session};
 use vt_consoles::VtEntry;
 
 /// The runs of a session's ports, or of its consoles.
@@ -16,17 +19,47 @@ pub type Runs = Buffer<PortRun>;
 /// The entries of a board.
 pub type VtEntries = Buffer<VtEntry>;
 
+/// What happened beside ports with modem lines.
+pub type ModemLogs = Buffer<ModemLog>;
+
 /// What happened beside the ports of processes.
 pub type JobLogs = Buffer<JobLog>;
 
 /// What a call of the program came to: its exit status, the runs of the ports or consoles, the entries of the consoles'
-/// board, and what happened beside the ports of processes.
+/// board, what happened beside ports with modem lines and beside those of processes, and the session that these were
+/// played.
 #[derive(Drop)]
 pub struct Ran {
     pub status: u8,
     pub runs: Runs,
     pub vt: VtEntries,
+    pub modem: ModemLogs,
     pub jobs: JobLogs,
+    pub derived: Option<Session>,
+}
+
+impl Ran {
+    /// That no memory was left.
+    pub fn starved(alloc: Global) -> Ran
+        ensures { result
+            ≡ record {
+              status = 5;
+              runs = record { items = []; spare = 0 };
+              vt = record { items = []; spare = 0 };
+              modem = record { items = []; spare = 0 };
+              jobs = record { items = []; spare = 0 };
+              derived = None;
+            } }
+    {
+        Ran {
+            status: 5,
+            runs: Runs::new(alloc),
+            vt: VtEntries::new(alloc),
+            modem: ModemLogs::new(alloc),
+            jobs: JobLogs::new(alloc),
+            derived: None,
+        }
+    }
 }
 
 /// How the work ended, before it was told.
@@ -43,13 +76,15 @@ pub enum Ending {
     NotLegal(Bytes),
 }
 
-/// What was done: how it ended, the runs, the entries of the consoles' board, and the log of processes.
+/// What was done: how it ended, and what a call of the program returns of it.
 #[derive(Drop)]
 pub struct Work {
     pub ending: Ending,
     pub runs: Runs,
     pub vt: VtEntries,
+    pub modem: ModemLogs,
     pub jobs: JobLogs,
+    pub derived: Option<Session>,
 }
 
 impl Work {
@@ -60,22 +95,24 @@ impl Work {
               ending = ending;
               runs = record { items = []; spare = 0 };
               vt = record { items = []; spare = 0 };
+              modem = record { items = []; spare = 0 };
               jobs = record { items = []; spare = 0 };
+              derived = None;
             } }
     {
         Work {
             ending,
             runs: Runs::new(alloc),
             vt: VtEntries::new(alloc),
+            modem: ModemLogs::new(alloc),
             jobs: JobLogs::new(alloc),
+            derived: None,
         }
     }
 
     /// Gives the text of the ending to the sink.
     pub fn tell<K: Sink>(self, sink: &mut K) -> Ran
-        ensures runs { result.runs ≡ self.runs }
-        ensures vt { result.vt ≡ self.vt }
-        ensures jobs { result.jobs ≡ self.jobs }
+        ensures back { returned result ≡ brought self }
         ensures status { (result.status ≡ status_of self.ending) ⊎ (result.status ≡ 4) }
         ensures fault { result.status ≡ 4 → Rose (K.faults sink.old) (K.faults sink.new) }
         ensures whole { result.status ≢ 4
@@ -87,20 +124,26 @@ impl Work {
             ending,
             runs,
             vt,
+            modem,
             jobs,
+            derived,
         } = self;
         match write_all(sink, ending.text()) {
             Ok(()) => Ran {
                 status: ending.status(),
                 runs,
                 vt,
+                modem,
                 jobs,
+                derived,
             },
             Err(_) => Ran {
                 status: 4,
                 runs,
                 vt,
+                modem,
                 jobs,
+                derived,
             },
         }
     }

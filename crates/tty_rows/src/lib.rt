@@ -12,6 +12,8 @@ mod exchanged;
 #[cfg(test)]
 mod journals;
 #[cfg(test)]
+mod modems;
+#[cfg(test)]
 mod output;
 #[cfg(test)]
 mod overruns;

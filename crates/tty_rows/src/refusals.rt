@@ -23,11 +23,12 @@ const ROOM: usize = 65_536;
 const LONGEST: usize = 4_194_304;
 
 /// Words that are none of the program's.
-const OTHERS: [&[&str]; 10] = [
+const OTHERS: [&[&str]; 11] = [
     &[],
     &["run", "--two"],
     &["vt"],
     &["jobs", "--one"],
+    &["modem", "--one"],
     &["run", "--one", "--one"],
     &["run", "--journal", "--journal"],
     &["gen"],

@@ -1,14 +1,15 @@
 -- What tells the words of one thread from those of threads, and what each come to.
 use Rattle.std.proofs.Common.{ℕ, List, Option, None, Some, IfSome, inl, inr}
 use Rattle.tty_one.specs.declared.words.Command.{Command}
-use Rattle.tty_one.specs.declared.words.Command.TheVariants.{Run, RunOne, Jobs, Gen, Check, Vt, VtOne}
+use Rattle.tty_one.specs.declared.words.Command.TheVariants.{Run, RunOne, Modem, Jobs, Gen, Check, Vt, VtOne}
 use Rattle.tty_one.specs.declared.works.Ending.{Ending}
-use Rattle.tty_one.specs.Endings.{Ask, AreKnown, AreOfOne, AreOnThreads, AreRun, AreRunOne, AskConsoles, AskJobs}
+use Rattle.tty_one.specs.Endings.{Ask, AreKnown, AreOfOne, AreOnThreads, AreRun, AreRunOne, AskConsoles, AskModem, AskJobs}
 use Rattle.tty_one.specs.Endings.{AskOneToRead, AskToPlay, AskToRead, AskVt, AskVtOne, IsOnThreads}
 use Rattle.tty_one.specs.Reported.{Returned}
 use Rattle.tty_one.specs.Outcome.{IsBroken, breaks_words, breaks_fault, breaks_long}
 use Rattle.tty_one.specs.Outcome.{breaks_refusal, breaks_text, breaks_verdict, IsDone, IsToldBy, WasGiven}
 use Rattle.tty_one.specs.Works.{CanEnd, ReadsNothing}
+use Rattle.tty_one.proofs.Outcomes.{not_modem_and_run, not_modem_and_vt}
 use Rattle.tty_one.proofs.Outcomes.{not_jobs_and_run, not_jobs_and_vt, not_vt_and_run, one_if_not_on_threads}
 use Rattle.tty_one.proofs.Outcomes.{run_is_not_one, vt_is_not_one}
 use Rattle.tty_run.specs.Headline.{AreConsolesToldOnThreads, IsPlayedOnThreads}
@@ -59,10 +60,11 @@ for_fewer Some_ask Fewer Comes (Some bytes) asks h = λ fewer. h (asks fewer)
 
 -- ---- words of threads
 
--- a command of threads reads a text, and can end in each way; and it is not that of processes
+-- a command of threads reads a text, and can end in each way; and it is not that of modem lines or of processes
 pub threads_end : (command : Command) (e : Ending) → IsOnThreads command → CanEnd command e
 threads_end (Run journals) e on = tt
 threads_end (RunOne journals) e on = absurd (on tt)
+threads_end Modem e on = absurd (on tt)
 threads_end Jobs e on = absurd (on tt)
 threads_end (Gen number) e on = absurd (on tt)
 threads_end Check e on = absurd (on tt)
@@ -72,11 +74,26 @@ threads_end VtOne e on = absurd (on tt)
 pub threads_reading : (command : Command) → IsOnThreads command → ReadsNothing command → ⊥
 threads_reading (Run journals) on none = none
 threads_reading (RunOne journals) on none = on tt
+threads_reading Modem on none = on tt
 threads_reading Jobs on none = on tt
 threads_reading (Gen number) on none = on tt
 threads_reading Check on none = on tt
 threads_reading Vt on none = none
 threads_reading VtOne on none = on tt
+
+pub threads_are_not_modem : (words : List (List ℕ)) (command : Command)
+    → IsOnThreads command
+    → Ask command words
+    → AskModem words
+    → ⊥
+threads_are_not_modem words (Run journals) on asked modem = not_modem_and_run words modem journals asked
+threads_are_not_modem words (RunOne journals) on asked modem = on tt
+threads_are_not_modem words Modem on asked modem = on tt
+threads_are_not_modem words Jobs on asked modem = on tt
+threads_are_not_modem words (Gen number) on asked modem = on tt
+threads_are_not_modem words Check on asked modem = on tt
+threads_are_not_modem words Vt on asked modem = not_modem_and_vt words modem (inl asked)
+threads_are_not_modem words VtOne on asked modem = on tt
 
 pub threads_are_not_jobs : (words : List (List ℕ)) (command : Command)
     → IsOnThreads command
@@ -85,6 +102,7 @@ pub threads_are_not_jobs : (words : List (List ℕ)) (command : Command)
     → ⊥
 threads_are_not_jobs words (Run journals) on asked jobs = not_jobs_and_run words journals jobs asked
 threads_are_not_jobs words (RunOne journals) on asked jobs = on tt
+threads_are_not_jobs words Modem on asked jobs = on tt
 threads_are_not_jobs words Jobs on asked jobs = on tt
 threads_are_not_jobs words (Gen number) on asked jobs = on tt
 threads_are_not_jobs words Check on asked jobs = on tt
@@ -103,6 +121,8 @@ headline_at words left before now back (Run journals) text run asked told given 
     record { journals = journals; text = text; asked = asked; played = told; given = given }
 headline_at words left before now back (RunOne journals) text run asked told given =
     absurd (run_is_not_one words run (RunOne journals, tt, asked))
+headline_at words left before now back Modem text run asked told given =
+    absurd (run_is_not_one words run (Modem, tt, asked))
 headline_at words left before now back Jobs text run asked told given =
     absurd (run_is_not_one words run (Jobs, tt, asked))
 headline_at words left before now back (Gen number) text run asked told given =
@@ -133,6 +153,8 @@ consoles_at words left before now back (Run journals) text vt asked told given =
     absurd (not_vt_and_run words journals (inl vt) asked)
 consoles_at words left before now back (RunOne journals) text vt asked told given =
     absurd (vt_is_not_one words vt (RunOne journals, tt, asked))
+consoles_at words left before now back Modem text vt asked told given =
+    absurd (vt_is_not_one words vt (Modem, tt, asked))
 consoles_at words left before now back Jobs text vt asked told given = absurd (vt_is_not_one words vt (Jobs, tt, asked))
 consoles_at words left before now back (Gen number) text vt asked told given =
     absurd (vt_is_not_one words vt (Gen number, tt, asked))

@@ -1,11 +1,11 @@
 //! Sessions of consoles that are played on threads.
 
-ghost use Rattle.std.specs.Prelude.{◌≡◌, [], IfOk, IfSome, OnErr};
+ghost use Rattle.std.specs.Prelude.{IfOk, IfSome, OnErr};
 ghost use Rattle.tty_base.specs.Outside.{LeavesRest};
 ghost use Rattle.vt_text.specs.Sessions.{vt_session_of};
 ghost use Rattle.tty_one.specs.Consoles.{AreConsolesOnThreads};
 ghost use Rattle.tty_one.specs.Endings.{IsShort, IsOfSource};
-ghost use Rattle.tty_one.specs.Works.{brought, CanBePlayed, IsConsolesWork, IsWork};
+ghost use Rattle.tty_one.specs.Works.{brought, BoardAlone, CanBePlayed, IsConsolesWork, IsWork};
 ghost use Rattle.tty_one.specs.declared.words.Command.TheVariants.{Vt};
 
 use std::alloc::Global;
@@ -28,7 +28,7 @@ pub(crate) fn run_vt<R: Threads + Wait + Sync, S: Source, G: Gate + Sync>(
     ensures from { IfOk result (λ work.
         IsOfSource work.ending (S.faults source.old) (S.faults source.new) (S.left source.old) (S.left source.new)) }
     ensures work { IfOk result (λ work. IsWork Vt (S.left source.old) work.ending (brought work)) }
-    ensures no_log { IfOk result (λ work. work.jobs.items ≡ []) }
+    ensures own { IfOk result (λ work. BoardAlone (brought work)) }
     ensures short { OnErr result (IsShort (S.left source.old) (S.left source.new)) }
     ensures rest { IfSome (S.left source.old) (λ bytes. LeavesRest bytes (S.left source.new)) }
 {
@@ -48,7 +48,7 @@ fn play_consoles<R: Threads + Wait + Sync, G: Gate + Sync>(
     requires { CanBePlayed (vt_session_of session.now) }
     ensures told { IfOk result (λ work.
         IsConsolesWork (AreConsolesOnThreads (vt_session_of session.now)) work.ending (brought work)) }
-    ensures no_log { IfOk result (λ work. work.jobs.items ≡ []) }
+    ensures own { IfOk result (λ work. BoardAlone (brought work)) }
 {
     match play_vt(rt, alloc, session, gate) {
         Ok(played) => work_of_consoles(alloc, session, played),

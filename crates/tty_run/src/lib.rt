@@ -7,4 +7,4 @@ mod playing;
 mod top;
 
 pub use top::tty_run;
-pub use tty_one::{JobLogs, Ran, Runs, VtEntries};
+pub use tty_one::{JobLogs, ModemLogs, Ran, Runs, VtEntries};

@@ -1,12 +1,12 @@
 //! Sessions that are played on threads.
 
-ghost use Rattle.std.specs.Prelude.{◌≡◌, [], IfOk, IfSome, OnErr};
+ghost use Rattle.std.specs.Prelude.{IfOk, IfSome, OnErr};
 ghost use Rattle.tty_base.specs.Outside.{LeavesRest};
 ghost use Rattle.tty_calls.specs.Limits.{IsWithinLimits};
 ghost use Rattle.tty_calls.specs.Sessions.{session_of};
 ghost use Rattle.tty_one.specs.Endings.{IsShort, IsOfSource};
 ghost use Rattle.tty_one.specs.Reported.{IsInAnyOrder};
-ghost use Rattle.tty_one.specs.Works.{brought, IsWork, IsSessionWork, IsNeverFull};
+ghost use Rattle.tty_one.specs.Works.{brought, IsWork, IsSessionWork, IsNeverFull, RunsAlone};
 ghost use Rattle.tty_one.specs.declared.playing.Telling.TheVariants.{Report};
 ghost use Rattle.tty_one.specs.declared.words.Command.TheVariants.{Run};
 
@@ -30,8 +30,7 @@ pub(crate) fn run<R: Threads + Wait + Sync, S: Source, G: Gate + Sync>(
     ensures from { IfOk result (λ work.
         IsOfSource work.ending (S.faults source.old) (S.faults source.new) (S.left source.old) (S.left source.new)) }
     ensures work { IfOk result (λ work. IsWork (Run journals) (S.left source.old) work.ending (brought work)) }
-    ensures no_entries { IfOk result (λ work. work.vt.items ≡ []) }
-    ensures no_log { IfOk result (λ work. work.jobs.items ≡ []) }
+    ensures own { IfOk result (λ work. RunsAlone (brought work)) }
     ensures short { OnErr result (IsShort (S.left source.old) (S.left source.new)) }
     ensures rest { IfSome (S.left source.old) (λ bytes. LeavesRest bytes (S.left source.new)) }
 {
@@ -54,8 +53,7 @@ fn run_session<R: Threads + Wait + Sync, G: Gate + Sync>(
     requires { IsWithinLimits (session_of session.now) × IsNeverFull (session_of session.now) }
     ensures played { IfOk result
         (λ work. IsSessionWork IsInAnyOrder (Report journals) (session_of session.now) work.ending work.runs.items) }
-    ensures no_entries { IfOk result (λ work. work.vt.items ≡ []) }
-    ensures no_log { IfOk result (λ work. work.jobs.items ≡ []) }
+    ensures own { IfOk result (λ work. RunsAlone (brought work)) }
 {
     let played = play(rt, alloc, session, gate)?;
     work_of(alloc, used, session, played, Telling::Report { journals })

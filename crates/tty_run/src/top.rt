@@ -1,14 +1,15 @@
 //! The top call: what the words ask for is done, on threads where they say so.
 
-ghost use Rattle.std.specs.Prelude.{◌≡◌, ◌⊎◌, ◌≢◌, ◌≤◌, [], IfSome, IfOk, OnErr, length};
+ghost use Rattle.std.specs.Prelude.{◌≡◌, ◌⊎◌, ◌≢◌, ◌≤◌, [], None, IfSome, IfOk, OnErr, length};
 ghost use Rattle.tty_base.specs.Outside.{Rose, TookCount, LeavesRest};
-ghost use Rattle.tty_one.specs.Endings.{AreKnown, AreRun, AreGen, AskCheck, AskConsoles, AskJobs, AskToPlay, AskToRead};
-ghost use Rattle.tty_one.specs.Endings.{AskVt, IsOfSource, IsOnThreads, IsShort, IsStatus, IsStatusOr, IsTold, texts_of};
+ghost use Rattle.tty_one.specs.Endings.{AreKnown, AreRun, AreGen, AskCheck, AskConsoles, AskModem, AskJobs, AskToPlay};
+ghost use Rattle.tty_one.specs.Endings.{AskToRead, AskVt, IsOfSource, IsOnThreads, IsShort, IsStatus, IsStatusOr, IsTold, texts_of};
 ghost use Rattle.tty_one.specs.Reported.{nothing, returned};
 ghost use Rattle.tty_one.specs.Consoles.{CompletesConsoles};
 ghost use Rattle.tty_one.specs.Processes.{CompletesProcesses};
+ghost use Rattle.tty_one.specs.ModemLines.{CompletesModemLines};
 ghost use Rattle.tty_one.specs.Outcome.{IsDone, IsToldRefused, IsToldIllegal, IsBroken, Completes, CompletesCheck};
-ghost use Rattle.tty_one.specs.Works.{brought, HasEntries, IsWork};
+ghost use Rattle.tty_one.specs.Works.{brought, HasOwn, IsWork};
 ghost use Rattle.tty_run.specs.Headline.{AreConsolesToldOnThreads, IsPlayedOnThreads};
 
 use crate::consoles::run_vt;
@@ -17,15 +18,15 @@ use std::alloc::Global;
 use std::sync::Wait;
 use std::thread::Threads;
 use tty_base::{NoMemory, Sink, Source};
-use tty_one::{Command, JobLogs, Ran, Runs, VtEntries, Work, command_on_threads, tty_one};
+use tty_one::{Command, Ran, Work, command_on_threads, tty_one};
 use tty_port::Gate;
 
 /// Does what the words ask for, and ends with a status: 0 the work is done, 1 the text read is not in its
 /// grammar, 2 the words are none of the program's, 3 reading failed, 4 writing failed, 5 no memory was left,
 /// 6 the text is too long, 7 the journals that were read are not all legal. What is told goes to the sink:
 /// at 0 the session's report, with its journals where the words ask for them, the summary of a number's
-/// session, or that the journals are legal; else the line of the status. Of a session of consoles, and of one of
-/// processes, the report is its own.
+/// session, or that the journals are legal; else the line of the status. Of a session of consoles, of one of ports with
+/// modem lines, and of one of processes, the report is its own.
 ///
 /// By `run` the session is played on threads: in each phase each port has one for each caller, one each for
 /// line and flusher, and one for a clock that has ticks. By `vt` a session of consoles is: in each phase there is one
@@ -71,7 +72,8 @@ pub fn tty_run<R: Threads + Wait + Sync, S: Source, K: Sink, G: Gate + Sync>(
     // legal, and on one thread in its order, and the sink was given the text of that session and these
     // runs, or their summary. Or the runs that the text spells are all legal, and it was given that. Or the text
     // spells a session of consoles, and each of them and their board was played, on threads or on one. Or it spells a
-    // session of processes, and their ports were played on one.
+    // session of ports with modem lines, or of processes, and their ports were played on one: their log is returned,
+    // and the session that they were played.
     ensures done { result.status ≡ 0
         → IsDone (texts_of words.now) (S.left source.old) (K.given sink.old) (K.given sink.new) (returned result) }
     // 1: the text that was read is not in its grammar, and the sink was given its first wrong line.
@@ -90,6 +92,8 @@ pub fn tty_run<R: Threads + Wait + Sync, S: Source, K: Sink, G: Gate + Sync>(
     ensures none_judged { AskCheck (texts_of words.now) → result.runs.items ≡ [] }
     ensures no_entries { (AskConsoles (texts_of words.now) → ⊥) → result.vt.items ≡ [] }
     ensures no_log { (AskJobs (texts_of words.now) → ⊥) → result.jobs.items ≡ [] }
+    ensures no_modem_log { (AskModem (texts_of words.now) → ⊥) → result.modem.items ≡ [] }
+    ensures none_derived { (AskModem (texts_of words.now) ⊎ AskJobs (texts_of words.now) → ⊥) → result.derived ≡ None }
     // The source has left an end of what it had left.
     ensures rest { IfSome (S.left source.old) (λ bytes. LeavesRest bytes (S.left source.new)) }
     // Where a session is to be read and reading did not fail, a text that spells a session is played, and
@@ -109,6 +113,9 @@ pub fn tty_run<R: Threads + Wait + Sync, S: Source, K: Sink, G: Gate + Sync>(
     // Likewise a text that spells a session of consoles is played, and one that spells none is refused.
     ensures consoles { IfSome (S.left source.old) (λ bytes. AskConsoles (texts_of words.now) → length bytes ≤ 4194304
         → (Rose (S.faults source.old) (S.faults source.new) → ⊥) → CompletesConsoles bytes result.status) }
+    // .. and a session of ports with modem lines.
+    ensures modem_lines { IfSome (S.left source.old) (λ bytes. AskModem (texts_of words.now) → length bytes ≤ 4194304
+        → (Rose (S.faults source.old) (S.faults source.new) → ⊥) → CompletesModemLines bytes result.status) }
     // .. and a session of processes.
     ensures processes { IfSome (S.left source.old) (λ bytes. AskJobs (texts_of words.now) → length bytes ≤ 4194304
         → (Rose (S.faults source.old) (S.faults source.new) → ⊥) → CompletesProcesses bytes result.status) }
@@ -118,12 +125,7 @@ pub fn tty_run<R: Threads + Wait + Sync, S: Source, K: Sink, G: Gate + Sync>(
     };
     match work_on(rt, alloc, source, command, gate) {
         Ok(work) => work.tell(sink),
-        Err(NoMemory) => Ran {
-            status: 5,
-            runs: Runs::new(alloc),
-            vt: VtEntries::new(alloc),
-            jobs: JobLogs::new(alloc),
-        },
+        Err(NoMemory) => Ran::starved(alloc),
     }
 }
 
@@ -139,8 +141,7 @@ fn work_on<R: Threads + Wait + Sync, S: Source, G: Gate + Sync>(
     ensures from { IfOk result (λ work.
         IsOfSource work.ending (S.faults source.old) (S.faults source.new) (S.left source.old) (S.left source.new)) }
     ensures work { IfOk result (λ work. IsWork command (S.left source.old) work.ending (brought work)) }
-    ensures entries { IfOk result (λ work. HasEntries command (brought work)) }
-    ensures no_log { IfOk result (λ work. work.jobs.items ≡ []) }
+    ensures own { IfOk result (λ work. HasOwn command (brought work)) }
     ensures short { OnErr result (IsShort (S.left source.old) (S.left source.new)) }
     ensures rest { IfSome (S.left source.old) (λ bytes. LeavesRest bytes (S.left source.new)) }
 {
@@ -148,6 +149,7 @@ fn work_on<R: Threads + Wait + Sync, S: Source, G: Gate + Sync>(
         Command::Run { journals } => run(rt, alloc, source, journals, gate),
         Command::Vt => run_vt(rt, alloc, source, gate),
         Command::RunOne { .. }
+        | Command::Modem
         | Command::Jobs
         | Command::Gen(_)
         | Command::Check

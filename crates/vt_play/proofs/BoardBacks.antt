@@ -3,6 +3,7 @@ use Rattle.std.proofs.Common.{◌≡◌, ◌⊎◌, inl, inr, ℕ, suc, ◌+◌,
 use Rattle.std.proofs.Common.{◌++◌, Some, Result, Ok, Err, eq-eqb, if◌then◌else◌}
 use Rattle.std.proofs.Common.{length, refl, sym, subst, ap, ◌∙◌, arith, length-append}
 use Rattle.std.specs.Prelude.{IfErr, OnErr, OnOk, slice_get}
+use Rattle.std.proofs.lemmas.List.{length-take-le}
 use Rattle.std.proofs.lemmas.Option.{slice_get_within}
 use Rattle.journal_check.proofs.NameLemmas.{get_append, get_past}
 use Rattle.tty_calls.specs.declared.answers.Denied.{Denied}
@@ -22,10 +23,10 @@ use Rattle.vt_threads.proofs.BoardEnds.{made_since}
 use Rattle.vt_play.specs.declared.board_threads.BoardBack.{BoardBack}
 use Rattle.vt_play.specs.declared.board_threads.BoardHand.{BoardHand}
 use Rattle.vt_play.specs.declared.stage.Stage.{Stage}
-use Rattle.vt_play.specs.Stages.{BoardComes, IsDeniedAt, IsFresh}
-use Rattle.vt_play.specs.Stages.{PlaysFirstKeys, PlaysKeys, SomeDenied, first_denied}
-use Rattle.vt_play.specs.Phases.{HasBegun, asked_of}
-use Rattle.vt_play.proofs.Events.{key_count, some_keys}
+use Rattle.vt_play.specs.Stages.{BoardComes, IsDeniedAt, IsFresh, IsStoppedAt}
+use Rattle.vt_play.specs.Stages.{PlaysFirstKeys, PlaysKeys, SomeDenied, asked_of, first_denied}
+use Rattle.vt_play.specs.Phases.{HasBegun}
+use Rattle.vt_play.proofs.Events.{key_count}
 use Rattle.vt_play.proofs.Listing.{some_is, there}
 
 -- ---- two results
@@ -48,6 +49,14 @@ pub err_first : (a b : Result (Unit {0}) Denied) (P Q R : Denied → Type 0)
 err_first (Ok v) (Ok w) P Q R p q f g = tt
 err_first (Ok v) (Err d) P Q R p q f g = g d q
 err_first (Err d) b P Q R p q f g = f d p
+
+err_so : (a : Result (Unit {0}) Denied) (P : Type 0) (Q R : Denied → Type 0)
+    → OnErr a P
+    → IfErr a Q
+    → (P → (d : Denied) → Q d → R d)
+    → IfErr a R
+err_so (Ok v) P Q R p q f = tt
+err_so (Err d) P Q R p q f = f p d q
 
 either_way : (a : Result (Unit {0}) Denied) (P Q R : Type 0) → OnOk a P → OnErr a Q → (P → R) → (Q → R) → R
 either_way (Ok v) P Q R p q f g = f p
@@ -166,14 +175,31 @@ module _ (stage : Stage) (hand : BoardHand) (back : BoardBack) (comes : BoardCom
 
   -- ---- how many entries they made
 
-  keys_asked : (count : ℕ)
-      → count ≤ length phase.keys
-      → count ≤ asked_of names (opening_board b).consoles phase (number_of key)
-  keys_asked count few =
+  keys_asked : length phase.keys ≤ asked_of names (opening_board b).consoles phase (number_of key)
+  keys_asked =
       let number = comes.keys.here.number in
       let e : (if length names == number_of key then length phase.keys else 0) ≡ length phase.keys =
       ap (λ (c : Bool). if c then length phase.keys else 0) (eq-eqb (length names) (number_of key) (sym number)) in
-      omega (arith, few, e)
+      omega (arith, e)
+
+  -- not all keys were pressed
+  stopped_keys : PlaysFirstKeys stage hand.keys back.keys.hand → (d : Denied)
+      → IsDeniedAt b key d
+      → IsStoppedAt b names phase key d
+  stopped_keys first d found =
+      let keys = first.2 in
+      record {
+        is = found;
+        events = key_events stage.first keys.went;
+        made = since (key_events stage.first keys.went) keys.makes;
+        fewer =
+            let n = key_count stage.first keys.went in
+            let each = keys.each_key in
+            let less = first.1 in
+            let some = length-take-le first.0 phase.keys (omega (arith, less)) in
+            let asked = keys_asked in
+            omega (arith, n, each, less, some, asked);
+      }
 
   begun_keys : HasBegun names phase b key
   begun_keys =
@@ -184,7 +210,9 @@ module _ (stage : Stage) (hand : BoardHand) (back : BoardBack) (comes : BoardCom
         made = since (key_events stage.first keys.went) keys.makes;
         few =
             let n = key_count stage.first keys.went in
-            let each = keys.each_key in keys_asked (length (key_events stage.first keys.went)) (omega (arith, n, each));
+            let each = keys.each_key in
+            let asked = keys_asked in
+            omega (arith, n, each, asked);
       })
       (λ first.
       let keys = first.2 in
@@ -194,8 +222,10 @@ module _ (stage : Stage) (hand : BoardHand) (back : BoardBack) (comes : BoardCom
         few =
             let n = key_count stage.first keys.went in
             let each = keys.each_key in
-            let some = some_keys first.0 phase.keys in
-            keys_asked (length (key_events stage.first keys.went)) (omega (arith, n, each, some));
+            let less = first.1 in
+            let some = length-take-le first.0 phase.keys (omega (arith, less)) in
+            let asked = keys_asked in
+            omega (arith, n, each, less, some, asked);
       })
 
   begun_of : (i : ℕ) (s : BoardSeat) → IsOne i s → HasBegun names phase b s
@@ -210,26 +240,30 @@ module _ (stage : Stage) (hand : BoardHand) (back : BoardBack) (comes : BoardCom
 
   -- ---- what was denied
 
-  some_operator : (d : Denied) → SomeDenied b back.seats.items d → SomeDenied b seats d
+  some_operator : (d : Denied) → SomeDenied b names phase back.seats.items d → SomeDenied b names phase seats d
   some_operator d h = record {
     place = h.place;
     seat = h.seat;
     at =
         ap (λ (l : List BoardSeat). slice_get l h.place) are
         ∙ get_append back.seats.items (key ∷ []) h.place h.seat h.at;
-    is = h.is;
+    known = h.known;
+    stopped = h.stopped;
   }
 
-  the_keyboard : (d : Denied) → IsDeniedAt b key d → SomeDenied b seats d
+  the_keyboard : (d : Denied) → IsStoppedAt b names phase key d → SomeDenied b names phase seats d
   the_keyboard d h = record {
     place = length back.seats.items;
     seat = key;
     at =
         ap (λ (l : List BoardSeat). slice_get l (length back.seats.items)) are
         ∙ get_past back.seats.items (key ∷ []) (length back.seats.items) 0 (omega arith);
-    is = h;
+    known = let is = comes.keys.here.number in omega (arith, is);
+    stopped = h;
   }
 
-  pub some_denied : IfErr (first_denied back.operated back.keys.result) (SomeDenied b seats)
-  some_denied = err_first back.operated back.keys.result (SomeDenied b back.seats.items) (IsDeniedAt b key)
-      (SomeDenied b seats) comes.denied comes.keys.denied some_operator the_keyboard
+  pub some_denied : IfErr (first_denied back.operated back.keys.result) (SomeDenied b names phase seats)
+  some_denied = err_first back.operated back.keys.result (SomeDenied b names phase back.seats.items)
+      (IsStoppedAt b names phase key) (SomeDenied b names phase seats) comes.denied
+      (err_so back.keys.result (PlaysFirstKeys stage hand.keys back.keys.hand) (IsDeniedAt b key)
+      (IsStoppedAt b names phase key) comes.keys.err comes.keys.denied stopped_keys) some_operator the_keyboard

@@ -1,5 +1,5 @@
 -- What the operators and the keyboard come to, one after the other.
-use Rattle.std.proofs.Common.{◌≡◌, ℕ, ◌≤◌, List, [], ◌∷◌, ◌++◌, Some, Result}
+use Rattle.std.proofs.Common.{◌≡◌, ℕ, ◌<◌, ◌≤◌, List, [], ◌∷◌, ◌++◌, Some, Result}
 use Rattle.std.proofs.Common.{Ok, Err, flat_map, length, sym, subst, ap, ◌∙◌, arith, length-append}
 use Rattle.std.specs.Prelude.{IfErr, IfOk, OnErr, OnOk, slice_get}
 use Rattle.journal_check.proofs.NameLemmas.{get_append, get_past}
@@ -13,7 +13,7 @@ use Rattle.vt_consoles.specs.Shared.{IsHere, name_of_board, opening_board}
 use Rattle.vt_consoles.specs.declared.shared.SharedBoard.{SharedBoard}
 use Rattle.vt_text.specs.declared.sessions.OpScript.{OpScript}
 use Rattle.vt_text.specs.declared.sessions.VtPhase.{VtPhase}
-use Rattle.vt_text.specs.Sessions.{operators_of, vt_phase_of}
+use Rattle.vt_text.specs.Sessions.{PlainVtPhase, operators_of, vt_phase_of}
 use Rattle.vt_account.specs.Account.{accepted, calls_at}
 use Rattle.vt_threads.specs.Operating.{AnswersCalls, AnswersFirst, calls_of_seat}
 use Rattle.vt_threads.proofs.BoardEnds.{made_since, operator_played}
@@ -24,8 +24,8 @@ use Rattle.vt_play.specs.declared.board_threads.KeyHand.{KeyHand}
 use Rattle.vt_play.specs.declared.board_threads.OperatorBack.{OperatorBack}
 use Rattle.vt_play.specs.declared.stage.Stage.{Stage}
 use Rattle.vt_play.specs.Stages.{BoardComes, CanKey, CanPlayBoard, HasOperated, IsDeniedAt}
-use Rattle.vt_play.specs.Stages.{IsFresh, IsOperatorBack, IsWithOperator, KeyboardComes}
-use Rattle.vt_play.specs.Stages.{OperatorBegan, OperatorComes, Places, SomeDenied}
+use Rattle.vt_play.specs.Stages.{IsFresh, IsOperatorBack, IsStoppedAt, IsWithOperator, KeyboardComes}
+use Rattle.vt_play.specs.Stages.{OperatorBegan, OperatorComes, Places, SomeDenied, asked_of}
 use Rattle.vt_play.proofs.BoardBacks.{err_first, ok_both}
 use Rattle.vt_play.proofs.Events.{answers_few, first_few}
 
@@ -54,15 +54,35 @@ began_first : (b : SharedBoard) (names : List (List ℕ)) (phase : VtPhase) (n :
     → AnswersFirst (opening_board b).consoles n (calls_of_seat names n (vt_phase_of phase).operators) old new
     → OperatorBegan b names (vt_phase_of phase) new
 began_first b names phase n old new fresh is h = record {
-  events = h.1.answered.events;
-  made = made_since (history_of (opening_board b)) n h.1.answered.events
-      old new fresh.here.number is fresh.seen h.1.answered.makes;
+  events = h.2.answered.events;
+  made = made_since (history_of (opening_board b)) n h.2.answered.events
+      old new fresh.here.number is fresh.seen h.2.answered.makes;
   few = subst (λ (k : ℕ).
-      length h.1.answered.events
+      length h.2.answered.events
       ≤ length (flat_map (accepted (opening_board b).consoles) (calls_at names k (vt_phase_of phase))))
       (sym is)
-      (first_few (opening_board b).consoles n
-      (calls_of_seat names n (vt_phase_of phase).operators) old new h);
+      (let few = first_few (opening_board b).consoles n
+      (calls_of_seat names n (vt_phase_of phase).operators) old new h in
+      omega (arith, few));
+}
+
+stopped : (b : SharedBoard) (names : List (List ℕ)) (phase : VtPhase) (n : ℕ) (old new : BoardSeat) (denied : Denied)
+    → IsFresh b n old
+    → number_of new ≡ n
+    → AnswersFirst (opening_board b).consoles n (calls_of_seat names n (vt_phase_of phase).operators) old new
+    → IsDeniedAt b new denied
+    → IsStoppedAt b names (vt_phase_of phase) new denied
+stopped b names phase n old new denied fresh is h found = record {
+  is = found;
+  events = h.2.answered.events;
+  made = made_since (history_of (opening_board b)) n h.2.answered.events
+      old new fresh.here.number is fresh.seen h.2.answered.makes;
+  fewer = subst (λ (k : ℕ).
+      length h.2.answered.events < asked_of names (opening_board b).consoles (vt_phase_of phase) k)
+      (sym is)
+      (let few = first_few (opening_board b).consoles n
+      (calls_of_seat names n (vt_phase_of phase).operators) old new h in
+      omega (arith, few));
 }
 
 pub operator_comes : (b : SharedBoard) (names : List (List ℕ)) (phase : VtPhase) (n : ℕ) (operators : List OpScript)
@@ -92,7 +112,7 @@ operator_comes b names phase n operators old new (Err d) are fresh here ok err d
       here = here;
       began = began_first b names phase n old new fresh here.number first;
       ok = tt;
-      denied = denied;
+      denied = stopped b names phase n old new d fresh here.number first denied;
     }
 
 -- ---- operators one after the other
@@ -108,7 +128,8 @@ board_none stage hand back none no_seats ok keys = record {
   seats = λ i s at. absurd (no_seat i s (ap (λ (l : List BoardSeat). slice_get l i) (sym no_seats) ∙ at));
   operated = subst (λ (r : Result (Unit {0}) Denied). OnOk r (Places (HasOperated stage) back.seats.items)) (sym ok)
       (λ i s at. absurd (no_seat i s (ap (λ (l : List BoardSeat). slice_get l i) (sym no_seats) ∙ at)));
-  denied = subst (λ (r : Result (Unit {0}) Denied). IfErr r (SomeDenied stage.board.now back.seats.items)) (sym ok) tt;
+  denied = subst (λ (r : Result (Unit {0}) Denied). IfErr r
+      (SomeDenied stage.board.now stage.names.now (vt_phase_of stage.phase.now) back.seats.items)) (sym ok) tt;
   keys = keys;
 }
   where
@@ -118,6 +139,15 @@ board_none stage hand back none no_seats ok keys = record {
 module _ (stage : Stage) (hand fewer : BoardHand) (others : List BoardSeat) (seat : BoardSeat)
     (split : hand.seats.items ≡ others ++ seat ∷ []) (fewer_are : fewer.seats.items ≡ others)
     (fewer_keys : fewer.keys ≡ hand.keys) where
+  abbrev b : SharedBoard
+  b = stage.board.now
+
+  abbrev names : List (List ℕ)
+  names = stage.names.now
+
+  abbrev phase : PlainVtPhase
+  phase = vt_phase_of stage.phase.now
+
   pub can_first : CanPlayBoard stage hand → IsFresh stage.board.now (length others) seat
   can_first can = each_last (IsFresh stage.board.now) hand.seats.items others seat split can.seats
 
@@ -135,11 +165,12 @@ module _ (stage : Stage) (hand fewer : BoardHand) (others : List BoardSeat) (sea
   }
 
   pub board_more : (back : BoardBack) (one : OperatorBack) (now : BoardBack)
+      → length hand.seats.items ≤ length names
       → BoardComes stage fewer back
-      → OperatorComes stage.board.now stage.names.now (vt_phase_of stage.phase.now) (length others) one
+      → OperatorComes b names phase (length others) one
       → IsWithOperator back one now
       → BoardComes stage hand now
-  board_more back one now h o w =
+  board_more back one now few h o w =
       let number : length back.seats.items ≡ length others =
       h.count ∙ ap (λ (l : List BoardSeat). length l) fewer_are in
       let here : IsOperatorBack stage (length back.seats.items) one.seat =
@@ -158,17 +189,18 @@ module _ (stage : Stage) (hand fewer : BoardHand) (others : List BoardSeat) (sea
             (HasOperated stage (length others) one.seat) (Places (HasOperated stage) now.seats.items) h.operated o.ok
             (λ all last. each_one_more (HasOperated stage) now.seats.items back.seats.items one.seat w.seats all
             (subst (λ (n : ℕ). HasOperated stage n one.seat) (sym number) last)));
-        denied = subst (λ (r : Result (Unit {0}) Denied). IfErr r (SomeDenied stage.board.now now.seats.items))
+        denied = subst (λ (r : Result (Unit {0}) Denied). IfErr r (SomeDenied b names phase now.seats.items))
             (sym w.operated)
-            (err_first back.operated one.result (SomeDenied stage.board.now back.seats.items)
-            (IsDeniedAt stage.board.now one.seat) (SomeDenied stage.board.now now.seats.items) h.denied o.denied
+            (err_first back.operated one.result (SomeDenied b names phase back.seats.items)
+            (IsStoppedAt b names phase one.seat) (SomeDenied b names phase now.seats.items) h.denied o.denied
             (λ d x. record {
               place = x.place;
               seat = x.seat;
               at =
                   ap (λ (l : List BoardSeat). slice_get l x.place) w.seats
                   ∙ get_append back.seats.items (one.seat ∷ []) x.place x.seat x.at;
-              is = x.is;
+              known = x.known;
+              stopped = x.stopped;
             })
             (λ d x. record {
               place = length back.seats.items;
@@ -176,16 +208,22 @@ module _ (stage : Stage) (hand fewer : BoardHand) (others : List BoardSeat) (sea
               at =
                   ap (λ (l : List BoardSeat). slice_get l (length back.seats.items)) w.seats
                   ∙ get_past back.seats.items (one.seat ∷ []) (length back.seats.items) 0 (omega arith);
-              is = x;
+              known =
+                  let whole = ap (λ (l : List BoardSeat). length l) split in
+                  let size = length-append others (seat ∷ []) in
+                  let is = o.here.number in
+                  omega (arith, whole, size, is, few);
+              stopped = x;
             }));
         keys = subst (λ (k : KeyHand). KeyboardComes stage k now.keys) fewer_keys
             (subst (λ (k : KeyBack). KeyboardComes stage fewer.keys k) (sym w.keys) h.keys);
       }
 
   pub board_ok : {E : Type 0} (r : Result BoardBack E) (back : BoardBack) (one : OperatorBack)
+      → length hand.seats.items ≤ length names
       → BoardComes stage fewer back
-      → OperatorComes stage.board.now stage.names.now (vt_phase_of stage.phase.now) (length others) one
+      → OperatorComes b names phase (length others) one
       → IfOk r (IsWithOperator back one)
       → IfOk r (BoardComes stage hand)
-  board_ok (Ok now) back one h o w = board_more back one now h o w
-  board_ok (Err e) back one h o w = tt
+  board_ok (Ok now) back one few h o w = board_more back one now few h o w
+  board_ok (Err e) back one few h o w = tt

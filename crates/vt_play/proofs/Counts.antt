@@ -8,8 +8,10 @@ use Rattle.std.proofs.lemmas.Bool.{cases_order}
 use Rattle.std.proofs.lemmas.List.{length-map}
 use Rattle.std.proofs.lemmas.List.Elements.{filter-append}
 use Rattle.std.proofs.lemmas.List.FromFn.{length-range_with_len}
+use Rattle.tty_calls.specs.declared.answers.Denied.{Denied}
 use Rattle.port_cell.specs.declared.kept.Stamped.{Stamped}
 use Rattle.port_cell.specs.Entries.{GoesOn, entries_by}
+use Rattle.port_cell.specs.Knowledge.{number_of}
 use Rattle.port_cell.specs.Seats.{EachSeat, HasAll}
 use Rattle.vt_consoles.specs.declared.entries.VtEntry.{VtEntry}
 use Rattle.vt_consoles.specs.declared.entries.VtEvent.{VtEvent}
@@ -26,7 +28,8 @@ use Rattle.vt_account.specs.Seats.{operator_names}
 use Rattle.vt_threads.specs.Counting.{count_below}
 use Rattle.vt_threads.specs.Phases.{MadeBy, PhaseMade, key_events}
 use Rattle.vt_threads.proofs.Counting.{all_counted}
-use Rattle.vt_play.specs.Phases.{HasBegun, asked_below, asked_in, asked_of}
+use Rattle.vt_play.specs.Stages.{SomeDenied, asked_of}
+use Rattle.vt_play.specs.Phases.{HasBegun, asked_below, asked_in}
 use Rattle.vt_play.proofs.Events.{events_few, key_count}
 use Rattle.vt_play.proofs.Listing.{some_is}
 
@@ -47,31 +50,75 @@ pub record MadeFew (asked n : ℕ) (xs ys : List (Stamped VtEvent)) : Type 0 whe
   pub made : MadeBy n xs ys events
   pub few : length events ≤ asked
 
-count_few : (names : List (List ℕ)) (consoles : ℕ) (phase : PlainVtPhase) (n : ℕ) (xs ys : List (Stamped VtEvent))
-    → ((m : ℕ) → m < n → MadeFew (asked_of names consoles phase m) m xs ys)
-    → count_below n ys ≤ count_below n xs + asked_below names consoles phase n
-count_few names consoles phase zero xs ys h = omega arith
-count_few names consoles phase (suc n) xs ys h =
-    let r = count_few names consoles phase n xs ys (λ m lt. h m (omega (arith, lt))) in
-    let one = h n (omega arith) in
+made_length : (most n : ℕ) (xs ys : List (Stamped VtEvent))
+    → MadeFew most n xs ys
+    → length (entries_by n ys) ≤ length (entries_by n xs) + most
+made_length most n xs ys one =
     let e = ap (λ (l : List (Stamped VtEvent)). length l) one.made in
     let s = length-append (entries_by n xs) (map (stamped n) one.events) in
     let k = length-map one.events (stamped n) in
     let few = one.few in
-    omega (arith, r, e, s, k, few)
+    omega (arith, e, s, k, few)
+
+module _ (names : List (List ℕ)) (consoles : ℕ) (phase : PlainVtPhase) (xs ys : List (Stamped VtEvent)) where
+  count_few : (n : ℕ)
+      → ((m : ℕ) → m < n → MadeFew (asked_of names consoles phase m) m xs ys)
+      → count_below n ys ≤ count_below n xs + asked_below names consoles phase n
+  count_few zero h = omega arith
+  count_few (suc n) h =
+      let r = count_few n (λ m lt. h m (omega (arith, lt))) in
+      let one = made_length (asked_of names consoles phase n) n xs ys (h n (omega arith)) in
+      omega (arith, r, one)
+
+  -- .. and where one of the seats made less than that, so did all together
+  count_less : (n : ℕ)
+      → ((m : ℕ) → m < n → MadeFew (asked_of names consoles phase m) m xs ys)
+      → (k most : ℕ)
+      → k < n
+      → MadeFew most k xs ys
+      → most < asked_of names consoles phase k
+      → count_below n ys < count_below n xs + asked_below names consoles phase n
+  count_less zero h k most lt made less = absurd (omega (arith, lt))
+  count_less (suc n) h k most lt made less = by_case (cases_order k n)
+      (λ below. count_less n (λ m lt. h m (omega (arith, lt))) k most below made less)
+    where
+      last : k ≡ n → count_below (suc n) ys < count_below (suc n) xs + asked_below names consoles phase (suc n)
+      last same =
+          let r = count_few n (λ m lt. h m (omega (arith, lt))) in
+          let one = made_length most n xs ys (subst (λ (m : ℕ). MadeFew most m xs ys) same made) in
+          let fewer = subst (λ (m : ℕ). most < asked_of names consoles phase m) same less in
+          omega (arith, r, one, fewer)
+
+      by_case : (k ≡ n) ⊎ ((k < n) ⊎ (n < k))
+          → (k < n → count_below n ys < count_below n xs + asked_below names consoles phase n)
+          → count_below (suc n) ys < count_below (suc n) xs + asked_below names consoles phase (suc n)
+      by_case (inl same) below_less = last same
+      by_case (inr (inl below)) below_less =
+          let r = below_less below in
+          let one = made_length (asked_of names consoles phase n) n xs ys (h n (omega arith)) in
+          omega (arith, r, one)
+      by_case (inr (inr above)) below_less = absurd (omega (arith, lt, above))
+
+-- a history goes on by what these seats make
+history_length : (n : ℕ) (xs ys : List (Stamped VtEvent))
+    → GoesOn (λ k. k < n) xs ys
+    → length ys + count_below n xs ≡ length xs + count_below n ys
+history_length n xs ys goes =
+    let more = count_more n xs goes.0 in
+    let same = ap (count_below n) goes.1 in
+    let rest = all_counted n goes.0 goes.2 in
+    let size = ap (λ (l : List (Stamped VtEvent)). length l) goes.1 in
+    let s = length-append xs goes.0 in
+    omega (arith, more, same, rest, size, s)
 
 pub history_few : (names : List (List ℕ)) (consoles : ℕ) (phase : PlainVtPhase) (n : ℕ) (xs ys : List (Stamped VtEvent))
     → GoesOn (λ k. k < n) xs ys
     → ((m : ℕ) → m < n → MadeFew (asked_of names consoles phase m) m xs ys)
     → length ys ≤ length xs + asked_below names consoles phase n
 history_few names consoles phase n xs ys goes h =
-    let few = count_few names consoles phase n xs ys h in
-    let more = count_more n xs goes.0 in
-    let same = ap (count_below n) goes.1 in
-    let rest = all_counted n goes.0 goes.2 in
-    let size = ap (λ (l : List (Stamped VtEvent)). length l) goes.1 in
-    let s = length-append xs goes.0 in
-    omega (arith, few, more, same, rest, size, s)
+    let few = count_few names consoles phase xs ys n h in
+    let size = history_length n xs ys goes in
+    omega (arith, few, size)
 
 pub board_length : (b : BoardState) → length (history_of b) ≡ length b.entries
 board_length b = length-map b.entries (λ (e : VtEntry). stamped e.seat e.event)
@@ -86,31 +133,39 @@ at_seat P [] i s h at = absurd (cc)
 at_seat P (x ∷ xs) zero s h at = subst P (some_is x s at) h.0
 at_seat P (x ∷ xs) (suc i) s h at = at_seat P xs i s h.1 at
 
-pub begun_few : (names : List (List ℕ)) (phase : PlainVtPhase) (b : SharedBoard) (seats : List BoardSeat)
-    (w : BoardState)
+-- a seat was denied an entry, so that all seats made fewer than was asked of them
+pub begun_less : (names : List (List ℕ)) (phase : PlainVtPhase) (b : SharedBoard) (seats : List BoardSeat)
+    (w : BoardState) (denied : Denied)
     → HasAll (seats_of b) seats
     → GoesOn (λ k. k < seats_of b) (history_of (opening_board b)) (history_of w)
     → EachSeat (HasAllOf (history_of w)) seats
     → EachSeat (HasBegun names phase b) seats
+    → seats_of b ≡ length names + 1
+    → SomeDenied b names phase seats denied
     → length w.entries
-    ≤ length (opening_board b).entries + asked_below names (opening_board b).consoles phase (seats_of b)
-begun_few names phase b seats w all goes each begun =
+    < length (opening_board b).entries + asked_below names (opening_board b).consoles phase (seats_of b)
+begun_less names phase b seats w denied all goes each begun number some =
+    let a = opening_board b in
     let made : (m : ℕ)
     → m < seats_of b
-    → MadeFew (asked_of names (opening_board b).consoles phase m) m (history_of (opening_board b)) (history_of w) =
+    → MadeFew (asked_of names a.consoles phase m) m (history_of a) (history_of w) =
     λ m lt.
     let found = all m lt in
     let s : BoardSeat = found.1 in
     let has = at_seat (HasAllOf (history_of w)) seats found.0 s each found.2 in
     let one = at_seat (HasBegun names phase b) seats found.0 s begun found.2 in
-    subst (λ (k : ℕ).
-    MadeFew (asked_of names (opening_board b).consoles phase k) k (history_of (opening_board b)) (history_of w)) found.3
+    subst (λ (k : ℕ). MadeFew (asked_of names a.consoles phase k) k (history_of a) (history_of w)) found.3
     (record { events = one.events; made = has.own ∙ one.made; few = one.few }) in
-    let few = history_few names (opening_board b).consoles phase (seats_of b) (history_of (opening_board b))
-    (history_of w) goes made in
-    let x = board_length (opening_board b) in
+    let stopped = some.stopped in
+    let has = at_seat (HasAllOf (history_of w)) seats some.place some.seat each some.at in
+    let known = some.known in
+    let less = count_less names a.consoles phase (history_of a) (history_of w) (seats_of b) made
+    (number_of some.seat) (length stopped.events) (omega (arith, known, number))
+    (record { events = stopped.events; made = has.own ∙ stopped.made; few = omega arith }) stopped.fewer in
+    let size = history_length (seats_of b) (history_of a) (history_of w) goes in
+    let x = board_length a in
     let y = board_length w in
-    omega (arith, few, x, y)
+    omega (arith, less, size, x, y)
 
 by_place : (names : List (List ℕ)) (phase : PlainVtPhase) (first : ℕ) (went : List ℕ) (a w : BoardState)
     → PhaseMade names phase first went a w

@@ -17,13 +17,13 @@ use Rattle.vt_consoles.specs.Histories.{history_of}
 use Rattle.vt_consoles.specs.Seats.{BoardSeat, HasAllOf}
 use Rattle.vt_consoles.specs.Shared.{opening_board, seats_of}
 use Rattle.vt_text.specs.Sessions.{PlainVtPhase, PlainVtSession, vt_session_of}
-use Rattle.vt_account.specs.InOrder.{entries_in_order}
+use Rattle.vt_account.specs.InOrder.{IsBoardDenied, entries_in_order}
 use Rattle.vt_account.specs.Seats.{operator_names}
 use Rattle.vt_account.proofs.Accounting.{in_order_is_account}
 use Rattle.vt_play.specs.declared.stage.PhaseOf.{PhaseOf}
-use Rattle.vt_play.specs.Phases.{HasBegun, IsBoardBefore, IsDeniedIn, IsPhaseOf, asked_below}
+use Rattle.vt_play.specs.Phases.{HasBegun, IsBoardBefore, IsPhaseOf, asked_below}
 use Rattle.vt_play.specs.Stages.{SomeDenied}
-use Rattle.vt_play.proofs.Counts.{account_asked, asked_front, asked_more, at_seat, begun_few, board_length}
+use Rattle.vt_play.proofs.Counts.{account_asked, asked_front, asked_more, at_seat, begun_less, board_length}
 use Rattle.vt_play.proofs.Listing.{there}
 
 abbrev entry_of : Stamped VtEvent → VtEntry
@@ -41,36 +41,50 @@ module _ (of : PhaseOf) (shared : SharedBoard) (seats : List BoardSeat) (w : Boa
   abbrev vt : PlainVtSession
   vt = vt_session_of of.session.now
 
-  -- a board whose phases ask for no more
-  within_asked : length w.entries ≤ length (entries_in_order vt)
-  within_asked =
+  phase_there : (phase : PlainVtPhase) × (slice_get vt.phases of.k ≡ Some phase)
+  phase_there =
       let whole = phase_of.within.whole in
       let below = phase_of.below in
-      let phase = there vt.phases of.k (omega (arith, whole, below)) in
-      let few = begun_few of.names.now phase.0 shared seats w all goes each (begun phase.0 phase.1) in
-      let named = ap (λ (n : List (List ℕ)). asked_below n (opening_board shared).consoles phase.0 (seats_of shared))
+      there vt.phases of.k (omega (arith, whole, below))
+
+  abbrev phase : PlainVtPhase
+  phase = phase_there.0
+
+  -- a board whose phases ask for more
+  below_asked : (d : Denied)
+      → SomeDenied shared of.names.now phase seats d
+      → length w.entries < length (entries_in_order vt)
+  below_asked d some =
+      let less = begun_less of.names.now phase shared seats w d all goes each (begun phase phase_there.1) number some in
+      let named = ap (λ (n : List (List ℕ)). asked_below n (opening_board shared).consoles phase (seats_of shared))
       phase_of.names_are in
-      let ports = ap (λ (n : ℕ). asked_below (operator_names vt.phases) n phase.0 (seats_of shared)) opening.consoles in
-      let count = ap (λ (n : ℕ). asked_below (operator_names vt.phases) vt.calls.ports phase.0 n)
+      let ports = ap (λ (n : ℕ). asked_below (operator_names vt.phases) n phase (seats_of shared)) opening.consoles in
+      let count = ap (λ (n : ℕ). asked_below (operator_names vt.phases) vt.calls.ports phase n)
       (number ∙ ap (λ (n : List (List ℕ)). length n + 1) phase_of.names_are) in
       let was = opening.counted in
-      let more = asked_more vt vt.phases of.k phase.0 phase.1 in
+      let more = asked_more vt vt.phases of.k phase phase_there.1 in
       let front = asked_front vt vt.phases (of.k + 1) in
       let account = account_asked vt 0 vt.phases (entries_in_order vt) (in_order_is_account vt).parts in
-      omega (arith, few, named, ports, count, was, more, front, account)
+      omega (arith, less, named, ports, count, was, more, front, account)
 
   -- a seat that was denied an entry found the board full
-  found_full : SomeDenied shared seats Full → 4194304 ≤ length w.entries
+  found_full : SomeDenied shared of.names.now phase seats Full → 4194304 ≤ length w.entries
   found_full some =
       let has = at_seat (HasAllOf (history_of w)) seats some.place some.seat each some.at in
       let seen = length-map (list_seen some.seat) entry_of in
-      let is : length (map entry_of (list_seen some.seat)) ≡ (opening_board shared).limit = some.is in
+      let is : length (map entry_of (list_seen some.seat)) ≡ (opening_board shared).limit = some.stopped.is in
       let limit = opening.limit in
       let size = ap (λ (l : List (Stamped VtEvent)). length l) has.begins.1 in
       let s = length-append (list_seen some.seat) has.begins.0 in
       let mine = board_length w in
       omega (arith, seen, is, limit, size, s, mine)
 
-  pub denied_so : (d : Denied) → SomeDenied shared seats d → IsDeniedIn vt d
+  pub denied_so : (d : Denied)
+      → ((x : PlainVtPhase) → slice_get vt.phases of.k ≡ Some x → SomeDenied shared of.names.now x seats d)
+      → IsBoardDenied vt d
   denied_so NoMemory some = tt
-  denied_so Full some = let few = within_asked in let full = found_full some in omega (arith, few, full)
+  denied_so Full some =
+      let here = some phase phase_there.1 in
+      let less = below_asked Full here in
+      let full = found_full here in
+      omega (arith, less, full)

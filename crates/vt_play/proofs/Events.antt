@@ -1,6 +1,6 @@
 -- How many events a seat of a board makes of calls and of keys.
-use Rattle.std.proofs.Common.{◌≡◌, ℕ, zero, suc, ◌+◌, ◌≤◌, List, [], ◌∷◌, flat_map}
-use Rattle.std.proofs.Common.{length, take, refl, ap, arith, length-append}
+use Rattle.std.proofs.Common.{◌≡◌, ℕ, suc, ◌+◌, ◌<◌, List, [], ◌∷◌, flat_map}
+use Rattle.std.proofs.Common.{length, refl, ap, arith, length-append}
 use Rattle.std.proofs.lemmas.Grind.{flat_map-append}
 use Rattle.vt_consoles.specs.declared.entries.VtEvent.{VtEvent}
 use Rattle.vt_consoles.specs.declared.entries.VtEvent.TheVariants.{Activate, State, Key}
@@ -29,19 +29,15 @@ answers_few consoles n calls old new h =
 
 pub first_few : (consoles n : ℕ) (calls : List OpCall) (old new : BoardSeat)
     → (h : AnswersFirst consoles n calls old new)
-    → length h.1.answered.events ≤ length (flat_map (accepted consoles) calls)
+    → length h.2.answered.events < length (flat_map (accepted consoles) calls)
 first_few consoles n calls old new h =
-    let few = answers_few consoles n h.1.done old new h.1.answered in
-    let all = ap (λ (l : List OpCall). length (flat_map (accepted consoles) l)) h.1.parts in
-    let parts = ap (λ (l : List OpCall). length l) (flat_map-append (accepted consoles) h.1.done h.0) in
-    let size = length-append (flat_map (accepted consoles) h.1.done) (flat_map (accepted consoles) h.0) in
-    omega (arith, few, all, parts, size)
+    let few = answers_few consoles n h.2.done old new h.2.answered in
+    let all = ap (λ (l : List OpCall). length (flat_map (accepted consoles) l)) h.2.parts in
+    let parts = ap (λ (l : List OpCall). length l) (flat_map-append (accepted consoles) h.2.done h.0) in
+    let size = length-append (flat_map (accepted consoles) h.2.done) (flat_map (accepted consoles) h.0) in
+    let left = h.1 in
+    omega (arith, few, all, parts, size, left)
 
 pub key_count : (first : ℕ) (went : List ℕ) → length (key_events first went) ≡ length went
 key_count first [] = refl
 key_count first (n ∷ went) = ap (λ (m : ℕ). suc m) (key_count (first + 1) went)
-
-pub some_keys : (count : ℕ) (keys : List ℕ) → length (take count keys) ≤ length keys
-some_keys zero keys = let none : length (take zero keys) ≡ 0 = refl in omega (arith, none)
-some_keys (suc n) [] = omega arith
-some_keys (suc n) (k ∷ keys) = let r = some_keys n keys in omega (arith, r)

@@ -179,6 +179,20 @@ module _ (of : PhaseOf) (board : SharedBoard) (parts : AllParts) (stage : Stage)
       (subst (λ (b : SharedBoard). EachSeat (HasBegun stage.names.now phase b) left.seats.items) g.board_is
       (all_begun stage hand back.board comes.board number fresh left.seats.items seats_are)))
 
+  denied_in : (x : PlainVtPhase)
+      → slice_get (vt_session_of of.session.now).phases of.k ≡ Some x
+      → IfErr left.made (SomeDenied board of.names.now x left.seats.items)
+  denied_in x at =
+      subst (λ (r : Result (Unit {0}) Denied). IfErr r (SomeDenied board of.names.now x left.seats.items)) (sym made_is)
+      (subst (λ (y : PlainVtPhase). IfErr told (SomeDenied board of.names.now y left.seats.items))
+      (same_there (vt_session_of of.session.now).phases of.k phase x g.phase_is at)
+      (subst (λ (n : List (List ℕ)). IfErr told (SomeDenied board n phase left.seats.items)) g.names_are
+      (subst (λ (b : SharedBoard). IfErr told (SomeDenied b stage.names.now phase left.seats.items)) g.board_is
+      (some_denied stage hand back.board comes.board number fresh left.seats.items seats_are))))
+    where
+      told : Result (Unit {0}) Denied
+      told = first_denied back.board.operated back.board.keys.result
+
   pub phase_leaves : PhaseLeaves of board parts left
   phase_leaves = record {
     here = subst (λ (b : SharedBoard). EachSeat (λ s. IsHere b (number_of s) s) left.seats.items) g.board_is
@@ -193,8 +207,5 @@ module _ (of : PhaseOf) (board : SharedBoard) (parts : AllParts) (stage : Stage)
         ((qs : List Parted) → ArePartsOf qs parts → PhasePlayed of board qs left)
         comes.board.operated comes.board.keys.ok (λ operated keys qs are. played_all keys qs are operated));
     begun = begun_in;
-    denied = subst (λ (r : Result (Unit {0}) Denied). IfErr r (SomeDenied board left.seats.items)) (sym made_is)
-        (subst (λ (b : SharedBoard).
-        IfErr (first_denied back.board.operated back.board.keys.result) (SomeDenied b left.seats.items)) g.board_is
-        (some_denied stage hand back.board comes.board number fresh left.seats.items seats_are));
+    denied = denied_in;
   }

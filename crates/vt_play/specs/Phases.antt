@@ -1,8 +1,6 @@
 -- A phase of all consoles and of their board, from its beginning to the beginning of the next.
-use Rattle.std.specs.Prelude.{◌≡◌, ℕ, ◌+◌, ◌<◌, ◌≤◌, ◌==◌, zero, suc, List, [], ◌∷◌, Option, Some}
-use Rattle.std.specs.Prelude.{Ok, IfErr, OnOk, flat_map, if◌then◌else◌, length, slice_get, take}
-use Rattle.tty_calls.specs.declared.answers.Denied.{Denied}
-use Rattle.tty_calls.specs.declared.answers.Denied.TheVariants.{Full, NoMemory}
+use Rattle.std.specs.Prelude.{◌≡◌, ℕ, ◌+◌, ◌<◌, ◌≤◌, zero, suc, List, [], ◌∷◌, Option, Some}
+use Rattle.std.specs.Prelude.{Ok, IfErr, OnOk, length, slice_get, take}
 use Rattle.one_thread.specs.Casting.{scripts_at}
 use Rattle.tty_port.specs.declared.shared.SharedPort.{SharedPort}
 use Rattle.many_threads.specs.Callers.{plain_cast}
@@ -16,8 +14,6 @@ use Rattle.vt_consoles.specs.Seats.{BoardSeat}
 use Rattle.vt_consoles.specs.Shared.{AreHere, IsHere, name_of_board, opening_board, seats_of}
 use Rattle.vt_text.specs.declared.sessions.VtSession.{VtSession}
 use Rattle.vt_text.specs.Sessions.{PlainVtPhase, PlainVtSession, vt_phase_of, vt_session_of}
-use Rattle.vt_account.specs.Account.{accepted, calls_at}
-use Rattle.vt_account.specs.InOrder.{entries_in_order}
 use Rattle.vt_account.specs.Keyed.{IsWithinKeys, all_keys, consoles_in, keys_to}
 use Rattle.vt_account.specs.Seats.{operator_names}
 use Rattle.vt_threads.specs.Closing.{MadeSince, SeatsPlayed}
@@ -35,16 +31,11 @@ use Rattle.vt_play.specs.declared.phases.VtInPlay.{VtInPlay}
 use Rattle.vt_play.specs.declared.stage.PhaseOf.{PhaseOf}
 use Rattle.vt_play.specs.declared.stage.Stage.{Stage}
 use Rattle.vt_play.specs.Parts.{AreBackOf, AreConsolesBefore, ArePartedAll, ArePartsOf}
-use Rattle.vt_play.specs.Stages.{SomeDenied}
+use Rattle.vt_play.specs.Stages.{SomeDenied, asked_of}
 
 -- ---- how many entries are asked for
 
--- those that a phase asks of a seat, and of the seats below this number
-abbrev pub asked_of : (names : List (List ℕ)) → (consoles : ℕ) → PlainVtPhase → (seat : ℕ) → ℕ
-asked_of names consoles phase seat =
-    length (flat_map (accepted consoles) (calls_at names seat phase))
-    + (if length names == seat then length phase.keys else 0)
-
+-- those that a phase asks of the seats below this number
 abbrev pub asked_below : (names : List (List ℕ)) → (consoles : ℕ) → PlainVtPhase → (seats : ℕ) → ℕ
 asked_below names consoles phase zero = 0
 asked_below names consoles phase (suc n) = asked_below names consoles phase n + asked_of names consoles phase n
@@ -75,11 +66,6 @@ pub record IsVtBefore (session : PlainVtSession) (k : ℕ) (v : VtInPlay) : Type
 -- all phases were played
 abbrev pub IsVtOver : PlainVtSession → VtInPlay → Type 0
 IsVtOver session v = IsWithinKeys session × IsVtBefore session (length session.phases) v
-
--- why a session is not played: its board would be full before all its entries are made, or memory is short
-abbrev pub IsDeniedIn : PlainVtSession → Denied → Type 0
-IsDeniedIn session Full = 4194304 ≤ length (entries_in_order session)
-IsDeniedIn session NoMemory = Unit {0}
 
 -- ---- the beginning of a phase
 
@@ -153,7 +139,9 @@ pub record PhaseLeaves (of : PhaseOf) (board : SharedBoard) (parts : AllParts) (
   pub begun : (phase : PlainVtPhase)
       → slice_get (vt_session_of of.session.now).phases of.k ≡ Some phase
       → EachSeat (HasBegun of.names.now phase board) back.seats.items
-  pub denied : IfErr back.made (SomeDenied board back.seats.items)
+  pub denied : (phase : PlainVtPhase)
+      → slice_get (vt_session_of of.session.now).phases of.k ≡ Some phase
+      → IfErr back.made (SomeDenied board of.names.now phase back.seats.items)
 
 -- ---- the end of a phase
 

@@ -1,6 +1,6 @@
 -- What the threads of a phase need, and what comes of them: the consoles' own, the operators' and the keyboard's.
-use Rattle.std.specs.Prelude.{◌≡◌, ℕ, ◌+◌, ◌<◌, ◌≤◌, ◌^◌, List, [], ◌∷◌, ◌++◌, Option, None, Some}
-use Rattle.std.specs.Prelude.{Result, Ok, Err, IfErr, OnErr, OnOk, flat_map, length, slice_get}
+use Rattle.std.specs.Prelude.{◌≡◌, ℕ, ◌+◌, ◌<◌, ◌≤◌, ◌^◌, ◌==◌, List, [], ◌∷◌, ◌++◌, Option, None, Some}
+use Rattle.std.specs.Prelude.{Result, Ok, Err, IfErr, OnErr, OnOk, flat_map, if◌then◌else◌, length, slice_get}
 use Rattle.tty_calls.specs.declared.answers.Denied.{Denied}
 use Rattle.tty_calls.specs.declared.sessions.Script.{Script}
 use Rattle.tty_port.specs.Shared as ports
@@ -32,6 +32,13 @@ use Rattle.vt_play.specs.declared.board_threads.KeyHand.{KeyHand}
 use Rattle.vt_play.specs.declared.board_threads.OperatorBack.{OperatorBack}
 use Rattle.vt_play.specs.declared.console_threads.ThreadsBack.{ThreadsBack}
 
+-- ---- how many entries a phase asks of a seat
+
+abbrev pub asked_of : (names : List (List ℕ)) → (consoles : ℕ) → PlainVtPhase → (seat : ℕ) → ℕ
+asked_of names consoles phase seat =
+    length (flat_map (accepted consoles) (calls_at names seat phase))
+    + (if length names == seat then length phase.keys else 0)
+
 -- ---- an operator
 
 -- a seat with this number that has seen the entries with which the board was shared
@@ -42,6 +49,14 @@ pub record IsFresh (b : SharedBoard) (n : ℕ) (s : BoardSeat) : Type 0 where
 -- the seat was denied an entry, at a board that it saw
 abbrev pub IsDeniedAt : SharedBoard → BoardSeat → Denied → Type 0
 IsDeniedAt b s denied = IsDenied (board_with (name_of_board b) (list_seen s)) denied
+
+-- .. and since the board was shared it made fewer entries than the phase asks of it
+pub record IsStoppedAt (b : SharedBoard) (names : List (List ℕ)) (phase : PlainVtPhase) (s : BoardSeat)
+    (denied : Denied) : Type 0 where
+  pub is : IsDeniedAt b s denied
+  pub events : List VtEvent
+  pub made : MadeSince (history_of (opening_board b)) s events
+  pub fewer : length events < asked_of names (opening_board b).consoles phase (number_of s)
 
 -- since the board was shared the seat answered no more calls than an operator's in the phase
 pub record OperatorBegan (b : SharedBoard) (names : List (List ℕ)) (phase : PlainVtPhase) (s : BoardSeat) : Type 0 where
@@ -55,7 +70,7 @@ pub record OperatorComes (b : SharedBoard) (names : List (List ℕ)) (phase : Pl
   pub began : OperatorBegan b names phase back.seat
   pub ok : OnOk back.result
       (OperatorPlayed (opening_board b).consoles names phase (history_of (opening_board b)) back.seat)
-  pub denied : IfErr back.result (IsDeniedAt b back.seat)
+  pub denied : IfErr back.result (IsStoppedAt b names phase back.seat)
 
 -- ---- the keyboard
 
@@ -106,18 +121,21 @@ abbrev pub HasOperated : Stage → ℕ → BoardSeat → Type 0
 HasOperated stage n s = OperatorPlayed (opening_board stage.board.now).consoles stage.names.now
     (vt_phase_of stage.phase.now) (history_of (opening_board stage.board.now)) s
 
--- one of these seats was denied an entry
-pub record SomeDenied (b : SharedBoard) (seats : List BoardSeat) (denied : Denied) : Type 0 where
+-- one of these seats, an operator's or the keyboard's, was denied an entry
+pub record SomeDenied (b : SharedBoard) (names : List (List ℕ)) (phase : PlainVtPhase) (seats : List BoardSeat)
+    (denied : Denied) : Type 0 where
   pub place : ℕ
   pub seat : BoardSeat
   pub at : slice_get seats place ≡ Some seat
-  pub is : IsDeniedAt b seat denied
+  pub known : number_of seat ≤ length names
+  pub stopped : IsStoppedAt b names phase seat denied
 
 pub record BoardComes (stage : Stage) (hand : BoardHand) (back : BoardBack) : Type 0 where
   pub count : length back.seats.items ≡ length hand.seats.items
   pub seats : Places (IsOperatorBack stage) back.seats.items
   pub operated : OnOk back.operated (Places (HasOperated stage) back.seats.items)
-  pub denied : IfErr back.operated (SomeDenied stage.board.now back.seats.items)
+  pub denied : IfErr back.operated
+      (SomeDenied stage.board.now stage.names.now (vt_phase_of stage.phase.now) back.seats.items)
   pub keys : KeyboardComes stage hand.keys back.keys
 
 -- the first of two refusals, if there is one

@@ -17,42 +17,42 @@ use vt_threads::{KeyWork, Keyboard, operate, play_keyboard};
 
 /// What an operator's thread brings back.
 #[derive(Drop)]
-pub struct OperatorBack {
-    pub seat: Seat,
-    pub result: Result<(), Denied>,
+pub(crate) struct OperatorBack {
+    pub(crate) seat: Seat,
+    pub(crate) result: Result<(), Denied>,
 }
 
 /// What the keyboard has of a phase: its seat at the board, and the consoles' lines.
 #[derive(Drop)]
-pub struct KeyHand {
-    pub seat: Seat,
-    pub keyboard: Keyboard,
+pub(crate) struct KeyHand {
+    pub(crate) seat: Seat,
+    pub(crate) keyboard: Keyboard,
 }
 
 /// What it brings back.
 #[derive(Drop)]
-pub struct KeyBack {
-    pub hand: KeyHand,
-    pub result: Result<(), Denied>,
+pub(crate) struct KeyBack {
+    pub(crate) hand: KeyHand,
+    pub(crate) result: Result<(), Denied>,
 }
 
 /// The seats of the operators by their numbers, and what the keyboard has.
 #[derive(Drop)]
-pub struct BoardHand {
-    pub seats: Vec<Seat>,
-    pub keys: KeyHand,
+pub(crate) struct BoardHand {
+    pub(crate) seats: Vec<Seat>,
+    pub(crate) keys: KeyHand,
 }
 
 /// What all that work at the board bring back, and whether an operator was denied a call.
 #[derive(Drop)]
-pub struct BoardBack {
-    pub seats: Vec<Seat>,
-    pub operated: Result<(), Denied>,
-    pub keys: KeyBack,
+pub(crate) struct BoardBack {
+    pub(crate) seats: Vec<Seat>,
+    pub(crate) operated: Result<(), Denied>,
+    pub(crate) keys: KeyBack,
 }
 
 /// An operator's thread.
-pub fn operator_thread<R: Wait>(
+pub(crate) fn operator_thread<R: Wait>(
     rt: &R,
     start: &Start,
     board: &SharedBoard,
@@ -71,7 +71,7 @@ pub fn operator_thread<R: Wait>(
 }
 
 /// The keyboard, once all threads are made.
-pub fn press_keys<R: Wait, G: Gate>(
+pub(crate) fn press_keys<R: Wait, G: Gate>(
     rt: &R,
     gate: &G,
     stage: Stage<'_>,
@@ -106,7 +106,7 @@ pub fn press_keys<R: Wait, G: Gate>(
 }
 
 /// What came before, and one operator more.
-pub fn with_operator(back: BoardBack, one: OperatorBack) -> Result<BoardBack, NoMemory>
+pub(crate) fn with_operator(back: BoardBack, one: OperatorBack) -> Result<BoardBack, NoMemory>
     ensures { IfOk result (IsWithOperator back one) }
 {
     let BoardBack {

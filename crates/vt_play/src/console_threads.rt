@@ -18,13 +18,13 @@ use tty_port::{Gate, SharedPort};
 use vt_threads::{Casting, OwnSeats};
 
 /// What a console's own threads bring back, where its port is shared.
-pub type OwnBack = Option<(FlusherBack, CallersBack)>;
+pub(crate) type OwnBack = Option<(FlusherBack, CallersBack)>;
 
 /// What the threads of a phase bring back: those of the consoles, and all that work at the board.
 #[derive(Drop)]
-pub struct ThreadsBack {
-    pub owns: Vec<OwnBack>,
-    pub board: BoardBack,
+pub(crate) struct ThreadsBack {
+    pub(crate) owns: Vec<OwnBack>,
+    pub(crate) board: BoardBack,
 }
 
 /// Where a console's own threads meet: at the start of the phase, and at the console's port, where that is shared; and

@@ -31,7 +31,7 @@ fn key_count(phases: &[VtPhase]) -> u32
 }
 
 /// All consoles at the beginning of a session.
-pub fn open_all(alloc: Global, session: &VtSession) -> Result<Vec<Console>, NoMemory>
+pub(crate) fn open_all(alloc: Global, session: &VtSession) -> Result<Vec<Console>, NoMemory>
     requires { IsWithinKeys (vt_session_of session.now) }
     ensures before { IfOk result (λ all. AreConsolesBefore (vt_session_of session.now) 0 [] all.items) }
     ensures count { IfOk result (λ all. length all.items ≡ (vt_session_of session.now).calls.ports) }
@@ -70,7 +70,7 @@ fn end_console(console: Console) -> Result<(PortRun, PortEnd), NoMemory>
 }
 
 /// Ends all consoles.
-pub fn end_all(alloc: Global, consoles: Vec<Console>) -> Result<Played, NoMemory>
+pub(crate) fn end_all(alloc: Global, consoles: Vec<Console>) -> Result<Played, NoMemory>
     requires { CanEndAll consoles.items }
     ensures { (x : PlainSession)
         → length consoles.items ≡ x.ports

@@ -20,29 +20,29 @@ use vt_threads::{
 
 /// What of a console the threads of a phase do not even see.
 #[derive(Drop)]
-pub struct Kept {
-    pub steps: Vec<u32>,
-    pub standing: Standing,
+pub(crate) struct Kept {
+    pub(crate) steps: Vec<u32>,
+    pub(crate) standing: Standing,
 }
 
 /// All consoles in their parts, by their numbers.
 #[derive(Drop)]
-pub struct AllParts {
-    pub ports: Vec<Option<SharedPort>>,
-    pub keyboard: Keyboard,
-    pub owns: Vec<Option<OwnSeats>>,
-    pub castings: Vec<Casting>,
-    pub kept: Vec<Kept>,
+pub(crate) struct AllParts {
+    pub(crate) ports: Vec<Option<SharedPort>>,
+    pub(crate) keyboard: Keyboard,
+    pub(crate) owns: Vec<Option<OwnSeats>>,
+    pub(crate) castings: Vec<Casting>,
+    pub(crate) kept: Vec<Kept>,
 }
 
 /// All consoles in their parts after the threads of a phase.
 #[derive(Drop)]
-pub struct AllBack {
-    pub ports: Vec<Option<SharedPort>>,
-    pub keyboard: Keyboard,
-    pub owns: Vec<OwnBack>,
-    pub castings: Vec<Casting>,
-    pub kept: Vec<Kept>,
+pub(crate) struct AllBack {
+    pub(crate) ports: Vec<Option<SharedPort>>,
+    pub(crate) keyboard: Keyboard,
+    pub(crate) owns: Vec<OwnBack>,
+    pub(crate) castings: Vec<Casting>,
+    pub(crate) kept: Vec<Kept>,
 }
 
 /// The parts of no console.
@@ -96,7 +96,7 @@ fn add_parts(all: &mut AllParts, parted: Parted) -> Result<(), NoMemory>
 }
 
 /// Parts all consoles for a phase.
-pub fn part_all(
+pub(crate) fn part_all(
     alloc: Global,
     session: &VtSession,
     k: usize,

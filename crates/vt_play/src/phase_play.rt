@@ -2,9 +2,10 @@
 
 ghost use Rattle.std.specs.Prelude.{◌≡◌, ◌+◌, ◌<◌, IfErr, IfOk, length};
 ghost use Rattle.vt_text.specs.Sessions.{vt_session_of};
+ghost use Rattle.vt_account.specs.InOrder.{IsBoardDenied};
 ghost use Rattle.vt_account.specs.Keyed.{IsWithinKeys};
 ghost use Rattle.vt_account.specs.Seats.{operator_names};
-ghost use Rattle.vt_play.specs.Phases.{IsDeniedIn, IsVtBefore};
+ghost use Rattle.vt_play.specs.Phases.{IsVtBefore};
 
 use crate::phases::{VtInPlay, close_all, next_first, share_all};
 use crate::stage::PhaseOf;
@@ -19,8 +20,8 @@ use tty_calls::{Denied, Names};
 use tty_port::Gate;
 use vt_text::VtSession;
 
-/// Plays a phase of a session, of whose operators these are the names: the consoles, the operators and the keyboard side
-/// by side on threads.
+/// Plays a phase of a session, of whose operators these are the names: the consoles, the operators and the keyboard,
+/// side by side on threads.
 pub(crate) fn play_phase<R: Threads + Wait + Sync, G: Gate + Sync>(
     rt: &R,
     alloc: Global,
@@ -35,7 +36,7 @@ pub(crate) fn play_phase<R: Threads + Wait + Sync, G: Gate + Sync>(
     requires names { names.now ≡ operator_names (vt_session_of session.now).phases }
     requires before { IsVtBefore (vt_session_of session.now) k in_play }
     ensures played { IfOk result (IsVtBefore (vt_session_of session.now) (k + 1)) }
-    ensures denied { IfErr result (IsDeniedIn (vt_session_of session.now)) }
+    ensures denied { IfErr result (IsBoardDenied (vt_session_of session.now)) }
 {
     let VtInPlay {
         board,

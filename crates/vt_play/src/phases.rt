@@ -6,10 +6,11 @@ ghost use Rattle.port_cell.specs.Knowledge.{number_of};
 ghost use Rattle.port_cell.specs.Seats.{EachSeat, HasAll};
 ghost use Rattle.vt_consoles.specs.Shared.{IsHere, opening_board, seats_of};
 ghost use Rattle.vt_text.specs.Sessions.{PlainVtPhase, vt_session_of};
+ghost use Rattle.vt_account.specs.InOrder.{IsBoardDenied};
 ghost use Rattle.vt_account.specs.Keyed.{all_keys};
 ghost use Rattle.vt_play.specs.declared.parts.AllParts.{AllParts};
 ghost use Rattle.vt_play.specs.Stages.{SomeDenied, first_denied};
-ghost use Rattle.vt_play.specs.Phases.{HasBegun, IsBoardBefore, IsClosed, IsDeniedIn};
+ghost use Rattle.vt_play.specs.Phases.{HasBegun, IsBoardBefore, IsClosed};
 ghost use Rattle.vt_play.specs.Phases.{IsPhaseOf, IsStageOf, IsStaged, IsVtBefore, PhaseLeaves};
 
 use crate::board_threads::{BoardBack, KeyBack, KeyHand};
@@ -28,23 +29,23 @@ use vt_threads::{Casting, Console, close_board};
 
 /// A session of consoles between two phases: its board and its consoles, and the index of the next key.
 #[derive(Drop)]
-pub struct VtInPlay {
-    pub board: Board,
-    pub consoles: Vec<Console>,
-    pub first: u32,
+pub(crate) struct VtInPlay {
+    pub(crate) board: Board,
+    pub(crate) consoles: Vec<Console>,
+    pub(crate) first: u32,
 }
 
 /// What the threads of a phase leave: all seats of the board, and whether one of them was denied an entry; and all
 /// consoles in their parts.
 #[derive(Drop)]
-pub struct PhaseBack {
-    pub seats: Vec<Seat>,
-    pub made: Result<(), Denied>,
-    pub all: AllBack,
+pub(crate) struct PhaseBack {
+    pub(crate) seats: Vec<Seat>,
+    pub(crate) made: Result<(), Denied>,
+    pub(crate) all: AllBack,
 }
 
 /// Shares the board for a phase, and parts all consoles.
-pub fn share_all(
+pub(crate) fn share_all(
     alloc: Global,
     of: PhaseOf<'_>,
     board: Board,
@@ -64,7 +65,7 @@ pub fn share_all(
 }
 
 /// Where the threads of a phase meet.
-pub fn stage_of<'s>(
+pub(crate) fn stage_of<'s>(
     of: PhaseOf<'s>,
     start: &'s Start,
     board: &'s SharedBoard,
@@ -88,7 +89,7 @@ pub fn stage_of<'s>(
 }
 
 /// Takes together what the threads brought back, and what they shared of the consoles.
-pub fn take_together(
+pub(crate) fn take_together(
     ports: Vec<Option<SharedPort>>,
     castings: Vec<Casting>,
     kept: Vec<Kept>,
@@ -129,7 +130,7 @@ pub fn take_together(
 }
 
 /// Ends the sharing of a board of which a seat was denied an entry. Where the board was full, the phases of the session
-/// up to this one ask for as many entries as it may have.
+/// up to this one ask for more entries than it may have.
 fn end_denied(of: PhaseOf<'_>, shared: SharedBoard, seats: Vec<Seat>, denied: Denied) -> Denied
     requires here { EachSeat (λ s. IsHere shared (number_of s) s) seats.items }
     requires all { HasAll (seats_of shared) seats.items }
@@ -140,8 +141,10 @@ fn end_denied(of: PhaseOf<'_>, shared: SharedBoard, seats: Vec<Seat>, denied: De
         → ((phase : PlainVtPhase)
         → slice_get (vt_session_of of.entry.session.now).phases of.entry.k ≡ Some phase
         → EachSeat (HasBegun of.entry.names.now phase shared) seats.items)
-        → SomeDenied shared seats.items denied
-        → IsDeniedIn (vt_session_of of.entry.session.now) denied }
+        → ((phase : PlainVtPhase)
+        → slice_get (vt_session_of of.entry.session.now).phases of.entry.k ≡ Some phase
+        → SomeDenied shared of.entry.names.now phase seats.items denied)
+        → IsBoardDenied (vt_session_of of.entry.session.now) denied }
 {
     let _of = of;
     let board = shared.close(seats);
@@ -150,7 +153,7 @@ fn end_denied(of: PhaseOf<'_>, shared: SharedBoard, seats: Vec<Seat>, denied: De
 }
 
 /// Ends the sharing of the board.
-pub fn close_all(
+pub(crate) fn close_all(
     of: PhaseOf<'_>,
     shared: SharedBoard,
     back: PhaseBack,
@@ -160,7 +163,7 @@ pub fn close_all(
     ensures denied { IsBoardBefore (vt_session_of of.entry.session.now) of.entry.k of.entry.first (opening_board shared)
         → IsPhaseOf of.entry
         → seats_of shared ≡ length of.entry.names.now + 1
-        → IfErr result (IsDeniedIn (vt_session_of of.entry.session.now)) }
+        → IfErr result (IsBoardDenied (vt_session_of of.entry.session.now)) }
 {
     let PhaseBack { seats, made, all } = back;
     match made {
@@ -170,7 +173,7 @@ pub fn close_all(
 }
 
 /// The index of the first key of the next phase.
-pub fn next_first(of: PhaseOf<'_>) -> u32
+pub(crate) fn next_first(of: PhaseOf<'_>) -> u32
     requires phase { IsPhaseOf of }
     requires first { of.first ≡ length (all_keys (take of.k (vt_session_of of.session.now).phases)) }
     ensures { result ≡ length (all_keys (take (of.entry.k + 1) (vt_session_of of.entry.session.now).phases)) }

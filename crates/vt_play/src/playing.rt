@@ -19,7 +19,7 @@ use vt_text::VtSession;
 const MOST_ENTRIES: u32 = 4_194_304;
 
 /// A session of consoles before its first phase.
-pub fn open(alloc: Global, session: &VtSession) -> Result<VtInPlay, NoMemory>
+pub(crate) fn open(alloc: Global, session: &VtSession) -> Result<VtInPlay, NoMemory>
     requires { IsWithinKeys (vt_session_of session.now) }
     ensures { IfOk result (IsVtBefore (vt_session_of session.now) 0) }
 {
@@ -34,7 +34,7 @@ pub fn open(alloc: Global, session: &VtSession) -> Result<VtInPlay, NoMemory>
 }
 
 /// Ends a session of consoles whose phases were played.
-pub fn end(alloc: Global, in_play: VtInPlay) -> Result<VtPlayed, NoMemory>
+pub(crate) fn end(alloc: Global, in_play: VtInPlay) -> Result<VtPlayed, NoMemory>
     requires { (session : PlainVtSession) × IsVtOver session in_play }
     ensures { (session : PlainVtSession)
         → IsVtOver session in_play

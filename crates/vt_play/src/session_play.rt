@@ -2,10 +2,10 @@
 
 ghost use Rattle.std.specs.Prelude.{◌≡◌, IfErr, IfOk};
 ghost use Rattle.vt_text.specs.Sessions.{vt_session_of};
+ghost use Rattle.vt_account.specs.InOrder.{IsBoardDenied};
 ghost use Rattle.vt_account.specs.Keyed.{IsWithinKeys};
 ghost use Rattle.vt_account.specs.Seats.{operator_names};
 ghost use Rattle.vt_one.specs.Played.{IsVtPlayed};
-ghost use Rattle.vt_play.specs.Phases.{IsDeniedIn};
 
 use crate::phase_play::play_phase;
 use crate::playing::{end, open};
@@ -31,7 +31,7 @@ fn play_named<R: Threads + Wait + Sync, G: Gate + Sync>(
     requires names { names.now ≡ operator_names (vt_session_of session.now).phases }
     ensures played { IfOk result (λ played. IsVtPlayed (vt_session_of session.now) played.board.entries
         played.consoles.runs.items played.consoles.ends.items) }
-    ensures denied { IfErr result (IsDeniedIn (vt_session_of session.now)) }
+    ensures denied { IfErr result (IsBoardDenied (vt_session_of session.now)) }
 {
     let mut in_play = or_denied(open(alloc, session))?;
     for k in 0..session.phases.len() {
@@ -40,9 +40,9 @@ fn play_named<R: Threads + Wait + Sync, G: Gate + Sync>(
     or_denied(end(alloc, in_play))
 }
 
-/// Plays a session of consoles on threads. In each phase the keyboard, each operator, and the flusher and each caller of
-/// each console have a thread, side by side, and all threads end before the next phase. A console whose journal is full
-/// is played no further. `Full` comes only where the session has more entries than a board may have.
+/// Plays a session of consoles on threads. In each phase the keyboard, each operator, and the flusher and each caller
+/// of each console have a thread, side by side, and all threads end before the next phase. A console whose journal is
+/// full is played no further. `Full` comes only where the session has more entries than a board may have.
 pub fn play_vt<R: Threads + Wait + Sync, G: Gate + Sync>(
     rt: &R,
     alloc: Global,
@@ -52,7 +52,7 @@ pub fn play_vt<R: Threads + Wait + Sync, G: Gate + Sync>(
     requires { IsWithinKeys (vt_session_of session.now) }
     ensures played { IfOk result (λ played. IsVtPlayed (vt_session_of session.now) played.board.entries
         played.consoles.runs.items played.consoles.ends.items) }
-    ensures denied { IfErr result (λ denied. IsDeniedIn (vt_session_of session.now) denied) }
+    ensures denied { IfErr result (λ denied. IsBoardDenied (vt_session_of session.now) denied) }
 {
     let names = or_denied(seats_of(alloc, session.phases.as_slice()))?;
     let played = play_named(rt, alloc, gate, session, &names);

@@ -9,24 +9,24 @@ use vt_threads::Casting;
 
 /// A phase of a session: its number, the names of the session's operators, and the index of its first key.
 #[derive(Clone, Copy)]
-pub struct PhaseOf<'s> {
-    pub session: &'s VtSession,
-    pub names: &'s Names,
-    pub k: usize,
-    pub first: u32,
+pub(crate) struct PhaseOf<'s> {
+    pub(crate) session: &'s VtSession,
+    pub(crate) names: &'s Names,
+    pub(crate) k: usize,
+    pub(crate) first: u32,
 }
 
 /// Where the threads of a phase meet: at its start, at the board, and at the ports of the consoles; and what of the
 /// session they play.
 #[derive(Clone, Copy)]
-pub struct Stage<'s> {
-    pub start: &'s Start,
-    pub board: &'s SharedBoard,
-    pub ports: &'s [Option<SharedPort>],
-    pub castings: &'s [Casting],
-    pub scripts: &'s [Script],
-    pub names: &'s Names,
-    pub phase: &'s VtPhase,
-    pub first: u32,
-    pub number: u32,
+pub(crate) struct Stage<'s> {
+    pub(crate) start: &'s Start,
+    pub(crate) board: &'s SharedBoard,
+    pub(crate) ports: &'s [Option<SharedPort>],
+    pub(crate) castings: &'s [Casting],
+    pub(crate) scripts: &'s [Script],
+    pub(crate) names: &'s Names,
+    pub(crate) phase: &'s VtPhase,
+    pub(crate) first: u32,
+    pub(crate) number: u32,
 }

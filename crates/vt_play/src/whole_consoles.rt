@@ -44,7 +44,7 @@ fn take_back(all: &mut AllBack) -> PartedBack
 }
 
 /// All consoles before the next phase, from their parts after this one.
-pub fn whole_all(
+pub(crate) fn whole_all(
     alloc: Global,
     session: &VtSession,
     k: usize,

@@ -163,7 +163,7 @@ module _ (consoles n first : ℕ) (keys : List ℕ) (old new : BoardSeat) (lines
 -- what was pressed first comes to what is played first
 pub plays_first : {A E : Type 0} (r : Result A E) (P : List ℕ → Type 0) (Q : List ℕ → Type 0) (keys : List ℕ)
     → ((ks : List ℕ) → P ks → Q ks)
-    → OnErr r ((count : ℕ) × (count ≤ length keys) × P (take count keys))
-    → OnErr r ((count : ℕ) × (count ≤ length keys) × Q (take count keys))
+    → OnErr r ((count : ℕ) × (count < length keys) × P (take count keys))
+    → OnErr r ((count : ℕ) × (count < length keys) × Q (take count keys))
 plays_first (Ok x) P Q keys f h = tt
 plays_first (Err d) P Q keys f h = (h.0, h.1, f (take h.0 keys) h.2)

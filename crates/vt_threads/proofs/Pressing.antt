@@ -501,15 +501,15 @@ presses_more consoles k n first index i keys byte old mid new lines noted moved 
 
 pub presses_first : (n first i : ℕ) (keys : List ℕ) (old mid new : BoardSeat) (lines noted moved : List LineState)
     (ends now after : List (PutterState Flagged))
-    → i ≤ length keys
+    → i < length keys
     → MakesNone n mid new
     → moved ≡ noted
     → after ≡ now
     → PressesKeys n first (take i keys) old mid lines noted ends now
     → PressesFirst n first keys old new lines moved ends after
-presses_first n first i keys old mid new lines noted moved ends now after le none same_lines same_ends h = (
+presses_first n first i keys old mid new lines noted moved ends now after lt none same_lines same_ends h = (
   i,
-  le,
+  lt,
   subst (λ (x : List LineState). PressesKeys n first (take i keys) old new lines x ends after) (sym same_lines)
       (subst (λ (x : List (PutterState Flagged)). PressesKeys n first (take i keys) old new lines noted ends x)
       (sym same_ends)

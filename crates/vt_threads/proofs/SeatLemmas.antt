@@ -2,6 +2,7 @@
 use Rattle.std.proofs.Common.{◌≡◌, ℕ, ◌<◌, ◌≤◌, nat_lt, Bool, true, false, if◌then◌else◌, List, [], ◌∷◌}
 use Rattle.std.proofs.Common.{◌++◌, map, flat_map, drop, length, Result, Ok, Err, refl, sym, ap, subst}
 use Rattle.std.proofs.Common.{◌∙◌, ◌+◌, arith, append-nil, append_assoc, suc, drop-cons, add-one, get_or}
+use Rattle.std.proofs.Common.{length-append}
 use Rattle.std.specs.Prelude.{OnErr}
 use Rattle.std.proofs.lemmas.List.{map-append, drop_all}
 use Rattle.std.proofs.lemmas.Grind.{flat_map-append}
@@ -18,7 +19,7 @@ use Rattle.vt_text.specs.declared.sessions.OpScript.{OpScript}
 use Rattle.vt_text.specs.Sessions.{operator_of, operators_of}
 use Rattle.vt_account.specs.Account.{accepted, call_in, index_in}
 use Rattle.vt_threads.specs.Operating.{MakesAll, AnswersCalls, AnswersUpTo}
-use Rattle.vt_threads.specs.Operating.{AnswersFirst, calls_of_operator, calls_of_seat}
+use Rattle.vt_threads.specs.Operating.{AnswersFirst, SomeAccepted, calls_of_operator, calls_of_seat}
 
 pub makes_none : (n : ℕ) (old new : BoardSeat) → own_entries new ≡ own_entries old → MakesAll n [] old new
 makes_none n old new h = h ∙ sym (append-nil (own_entries old))
@@ -116,6 +117,19 @@ up_to_all consoles n calls left old new e h =
     subst (λ (l : List OpCall). AnswersCalls consoles n l old new)
     (sym (h.parts ∙ ap (λ (l : List OpCall). h.done ++ l) e ∙ append-nil h.done)) h.answered
 
+some_accepted : (consoles : ℕ) (some rest : List OpCall)
+    → SomeAccepted consoles some
+    → SomeAccepted consoles (some ++ rest)
+some_accepted consoles some rest h =
+    let parts = ap (λ (l : List OpCall). length l) (flat_map-append (accepted consoles) some rest) in
+    let size = length-append (flat_map (accepted consoles) some) (flat_map (accepted consoles) rest) in
+    omega (arith, h, parts, size)
+
+-- an activation of a console that there is
+pub activation : (n consoles : ℕ) → n < consoles → SomeAccepted consoles (op.Activate n ∷ [])
+activation n consoles h =
+    let e = ap (λ (l : List OpCall). length (l ++ [])) (is_accepted n consoles h) in omega (arith, e)
+
 -- where one was denied, what was done before it stays
 pub first_then : (consoles n : ℕ) (calls left some rest : List OpCall) (old mid new : BoardSeat)
     → left ≡ some ++ rest
@@ -124,21 +138,23 @@ pub first_then : (consoles n : ℕ) (calls left some rest : List OpCall) (old mi
     → AnswersFirst consoles n calls old new
 first_then consoles n calls left some rest old mid new e h f = (
   f.0 ++ rest,
+  some_accepted consoles f.0 rest f.1,
   record {
-    done = h.done ++ f.1.done;
+    done = h.done ++ f.2.done;
     parts = h.parts
         ∙ ap (λ (l : List OpCall). h.done ++ l)
-        (e ∙ ap (λ (l : List OpCall). l ++ rest) f.1.parts ∙ append_assoc f.1.done f.0 rest)
-        ∙ sym (append_assoc h.done f.1.done (f.0 ++ rest));
-    answered = answers_more consoles n h.done f.1.done old mid new h.answered f.1.answered;
+        (e ∙ ap (λ (l : List OpCall). l ++ rest) f.2.parts ∙ append_assoc f.2.done f.0 rest)
+        ∙ sym (append_assoc h.done f.2.done (f.0 ++ rest));
+    answered = answers_more consoles n h.done f.2.done old mid new h.answered f.2.answered;
   },
 )
 
 pub first_none : (consoles n : ℕ) (calls : List OpCall) (old new : BoardSeat)
     → MakesNone n old new
+    → SomeAccepted consoles calls
     → AnswersFirst consoles n calls old new
-first_none consoles n calls old new m =
-    (calls, record { done = []; parts = refl; answered = answers_none consoles n old new m.own })
+first_none consoles n calls old new m some =
+    (calls, some, record { done = []; parts = refl; answered = answers_none consoles n old new m.own })
 
 -- ---- lists, from a place on
 

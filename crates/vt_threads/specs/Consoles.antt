@@ -155,11 +155,11 @@ pub record PlaysKeyboard (n first : ℕ) (keys : List ℕ) (old new : BoardSeat)
       → slice_get now p ≡ Some f
       → ConsoleComesIf port (keys_to p keys went) s t l m e f
 
--- .. the first of these keys
+-- .. the first of these keys, and not all of them
 abbrev pub PlaysFirst : (n first : ℕ) → List ℕ → (old new : BoardSeat) → List (Option SharedPort)
     → (seats seated : List (Option KeySeats)) → (lines noted : List LineState) → (ends now : List (PutterState Flagged))
     → Type 0
 PlaysFirst n first keys old new ports seats seated lines noted ends now =
     (count : ℕ)
-    × (count ≤ length keys)
+    × (count < length keys)
     × PlaysKeyboard n first (take count keys) old new ports seats seated lines noted ends now

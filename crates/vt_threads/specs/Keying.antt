@@ -133,12 +133,12 @@ pub record PressesKeys (n first : ℕ) (keys : List ℕ) (old new : BoardSeat) (
   pub makes : MakesAll n (key_events first went) old new
   pub take : TakeKeys keys went lines noted ends now
 
--- .. the first of these keys
+-- .. the first of these keys, and not all of them
 abbrev pub PressesFirst : (n first : ℕ) → List ℕ → (old new : BoardSeat) → (lines noted : List LineState)
     → (ends now : List (PutterState Flagged))
     → Type 0
 PressesFirst n first keys old new lines noted ends now =
-    (count : ℕ) × (count ≤ length keys) × PressesKeys n first (take count keys) old new lines noted ends now
+    (count : ℕ) × (count < length keys) × PressesKeys n first (take count keys) old new lines noted ends now
 
 -- ---- all consoles, one after the other
 

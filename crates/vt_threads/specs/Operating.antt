@@ -1,5 +1,5 @@
 -- What a seat of a board makes of the calls of operators.
-use Rattle.std.specs.Prelude.{◌≡◌, ℕ, List, [], ◌++◌, flat_map, map, if◌then◌else◌}
+use Rattle.std.specs.Prelude.{◌≡◌, ℕ, ◌<◌, List, [], ◌++◌, flat_map, length, map, if◌then◌else◌}
 use Rattle.tty_calls.specs.Sessions.{number_in}
 use Rattle.port_cell.specs.Knowledge.{own_entries}
 use Rattle.vt_consoles.specs.declared.entries.VtEvent.{VtEvent}
@@ -33,6 +33,11 @@ pub record AnswersUpTo (consoles n : ℕ) (calls left : List OpCall) (old new : 
   pub parts : calls ≡ done ++ left
   pub answered : AnswersCalls consoles n done old new
 
--- .. the first of these calls
+-- one of these calls is not refused
+abbrev pub SomeAccepted : (consoles : ℕ) → List OpCall → Type 0
+SomeAccepted consoles calls = 0 < length (flat_map (accepted consoles) calls)
+
+-- .. the first of these calls: one that is not refused is left
 abbrev pub AnswersFirst : (consoles n : ℕ) → List OpCall → (old new : BoardSeat) → Type 0
-AnswersFirst consoles n calls old new = (left : List OpCall) × AnswersUpTo consoles n calls left old new
+AnswersFirst consoles n calls old new =
+    (left : List OpCall) × SomeAccepted consoles left × AnswersUpTo consoles n calls left old new

@@ -7,7 +7,8 @@ ghost use Rattle.vt_consoles.specs.Histories.{board_with};
 ghost use Rattle.vt_consoles.specs.Seats.{MakesNone};
 ghost use Rattle.vt_consoles.specs.Shared.{IsHere, name_of_board};
 ghost use Rattle.vt_text.specs.Sessions.{operator_of, operators_of};
-ghost use Rattle.vt_threads.specs.Operating.{AnswersCalls, AnswersFirst, calls_of_operator, calls_of_seat};
+ghost use Rattle.vt_threads.specs.Operating.{AnswersCalls, AnswersFirst, SomeAccepted, calls_of_operator};
+ghost use Rattle.vt_threads.specs.Operating.{calls_of_seat};
 
 use std::sync::Wait;
 use tty_calls::{Denied, Names};
@@ -27,6 +28,7 @@ fn activate<R: Wait>(
     ensures ok { OnOk result
         (AnswersCalls (name_of_board board.now).consoles number (OpCall.Activate n ∷ []) seat.old seat.new) }
     ensures err { OnErr result (MakesNone number seat.old seat.new) }
+    ensures accepted { OnErr result (SomeAccepted (name_of_board board.now).consoles (OpCall.Activate n ∷ [])) }
     ensures denied { IfErr result
         (λ denied. IsDenied (board_with (name_of_board board.now) (list_seen seat.new)) denied) }
 {
@@ -49,6 +51,7 @@ fn call_one<R: Wait>(
     ensures seat { IsHere board.now number seat.new }
     ensures ok { OnOk result (AnswersCalls (name_of_board board.now).consoles number (call ∷ []) seat.old seat.new) }
     ensures err { OnErr result (MakesNone number seat.old seat.new) }
+    ensures accepted { OnErr result (SomeAccepted (name_of_board board.now).consoles (call ∷ [])) }
     ensures denied { IfErr result
         (λ denied. IsDenied (board_with (name_of_board board.now) (list_seen seat.new)) denied) }
 {

@@ -11,16 +11,31 @@ returns-clause-log c = record {
       nothing_due = refl;
       next = refl;
       entry = record { entry = _; some = lit< tt; stands = refl; is_answer = (refl, ([], refl)) };
+      in_phase = record { from = lit≤ tt; to = lit< tt };
+      at_once = lit< tt;
+      of_call = refl;
       goes_on = refl;
     },
     (
       lit≤ tt,
       lit≤ tt,
-      record { nothing_due = refl; next = refl; answers = (refl, refl) },
+      record {
+        nothing_due = refl;
+        next = refl;
+        in_phase = record { from = lit≤ tt; to = lit< tt };
+        between = refl;
+        answers = (refl, refl);
+      },
       (
         lit≤ tt,
         lit≤ tt,
-        record { nothing_due = refl; next = refl; answers = (refl, refl) },
+        record {
+          nothing_due = refl;
+          next = refl;
+          in_phase = record { from = lit≤ tt; to = lit< tt };
+          between = refl;
+          answers = (refl, refl);
+        },
         (
           lit≤ tt,
           lit≤ tt,
@@ -28,24 +43,45 @@ returns-clause-log c = record {
             nothing_due = refl;
             next = refl;
             entry = record { entry = _; some = lit< tt; stands = refl; is_answer = (refl, ([], refl)) };
+            in_phase = record { from = lit≤ tt; to = lit< tt };
+            at_once = lit< tt;
+            of_call = refl;
             goes_on = refl;
           },
           (
             lit≤ tt,
             lit≤ tt,
-            record { nothing_due = refl; next = refl; answers = (refl, refl) },
+            record {
+              nothing_due = refl;
+              next = refl;
+              in_phase = record { from = lit≤ tt; to = lit< tt };
+              between = refl;
+              answers = (refl, refl);
+            },
             (
               lit≤ tt,
               lit≤ tt,
-              record { nothing_due = refl; next = refl; answers = (refl, refl) },
+              record {
+                nothing_due = refl;
+                next = refl;
+                in_phase = record { from = lit≤ tt; to = lit< tt };
+                between = refl;
+                answers = (refl, refl);
+              },
               (
                 lit≤ tt,
                 lit≤ tt,
-                record { nothing_due = refl; next = refl; answers = (refl, refl) },
+                record {
+                  nothing_due = refl;
+                  next = refl;
+                  in_phase = record { from = lit≤ tt; to = lit< tt };
+                  between = refl;
+                  answers = (refl, refl);
+                },
                 (
                   lit≤ tt,
                   lit≤ tt,
-                  refl,
+                  (refl, refl),
                   (
                     lit≤ tt,
                     lit≤ tt,
@@ -53,6 +89,8 @@ returns-clause-log c = record {
                       rest = _;
                       is_due = refl;
                       entry = record { entry = _; some = lit< tt; stands = refl; is_answer = (refl, ([], refl)) };
+                      at_once = refl;
+                      of_call = refl;
                     },
                     refl,
                   ),

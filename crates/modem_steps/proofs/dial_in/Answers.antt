@@ -16,6 +16,7 @@ returns-clause-log c = record {
         next = refl;
         for_port = tt;
         entry = record { entry = _; some = lit< tt; stands = refl; is_answer = (refl, ([], refl)) };
+        at_once = lit< tt;
         not_held_up = refl;
       },
       (
@@ -32,6 +33,7 @@ returns-clause-log c = record {
             record {
               is_due = refl;
               entry = record { entry = _; some = lit< tt; stands = refl; is_answer = (refl, ([], refl)) };
+              at_once = refl;
             },
             (
               lit≤ tt,
@@ -41,6 +43,7 @@ returns-clause-log c = record {
                 next = refl;
                 for_port = tt;
                 entry = record { entry = _; some = lit< tt; stands = refl; is_answer = (refl, ([], refl)) };
+                at_once = lit< tt;
                 not_held_up = refl;
               },
               refl,

@@ -12,6 +12,7 @@ returns-clause-log c = record {
       next = refl;
       for_port = tt;
       entry = record { entry = _; some = lit< tt; stands = refl; is_answer = (refl, ([], refl)) };
+      at_once = lit< tt;
       not_held_up = refl;
     },
     (
@@ -50,6 +51,7 @@ returns-clause-log c = record {
                       next = refl;
                       for_port = tt;
                       entry = record { entry = _; some = lit< tt; stands = refl; is_answer = (refl, ([], refl)) };
+                      at_once = lit< tt;
                       not_held_up = refl;
                     },
                     refl,

@@ -27,5 +27,8 @@ returns-clause-under_clocal c = λ run. let due = run.leads.3.3.3.3.3.3.2.is_due
 pub returns-clause-told_twice : goal.returns-clause-told_twice
 returns-clause-told_twice c = λ run. other_number 8 0 (λ e. omega arith) run.leads.3.3.3.3.3.3.3.2.answers
 
+pub returns-clause-other_phase : goal.returns-clause-other_phase
+returns-clause-other_phase c = λ run. run.leads.3.3.3.3.2.answers
+
 pub returns-clause-given_up : goal.returns-clause-given_up
 returns-clause-given_up c = λ run. let still = run.leads.2.answers.2 in cc

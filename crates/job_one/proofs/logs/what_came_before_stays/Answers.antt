@@ -1,4 +1,4 @@
-use Rattle.job_one.proofs.Logging.{now_before, event_behind}
+use Rattle.job_steps.proofs.Moments.{now_before, event_behind}
 use Rattle.job_one.proofs.logs.what_came_before_stays.Goals as goal
 
 pub returns : goal.returns

@@ -1,4 +1,4 @@
-use Rattle.std.proofs.Common.{◌≡◌, sym, subst}
+use Rattle.std.proofs.Common.{sym, subst}
 use Rattle.job_text.specs.Events.{JobLog}
 use Rattle.job_one.specs.Events.{AreOn}
 use Rattle.job_ports.specs.Ports.{IsPortPlayed}

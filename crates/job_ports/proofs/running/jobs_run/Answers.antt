@@ -1,72 +1,47 @@
-use Rattle.std.proofs.Common.{◌≡◌, ◌≤◌, ◌<◌, ◌+◌, ℕ, List, [], map, ap, subst, sym, ◌∙◌, arith}
-use Rattle.tty_calls.specs.declared.answers.PortEnd.{PortEnd}
+use Rattle.std.proofs.Common.{◌≡◌, List, map, sym, ap, ◌∙◌, subst}
 use Rattle.tty_calls.specs.declared.journals.PortRun.{PortRun}
-use Rattle.passed_calls.specs.declared.logs.Logged.{Logged}
-use Rattle.job_text.specs.declared.logs.JobEvent.{JobEvent as KeptEvent}
+use Rattle.tty_calls.specs.Sessions.{PlainSession, session_of}
+use Rattle.passed_calls.specs.Within.{ArePassedWithin}
 use Rattle.job_text.specs.Events.{JobLog, logged_of}
 use Rattle.job_text.specs.Sessions.{jobs_session_of}
-use Rattle.passed_calls.specs.Within.{ArePassedWithin}
 use Rattle.job_one.specs.Played.{AreJobsPlayed, derived_with, journal_on}
-use Rattle.job_ports.specs.Ports.{AreFirstPlayed, all_passed}
-use Rattle.job_ports.proofs.Endings.{port_more}
-use Rattle.job_ports.proofs.Joining.{all_played, all_within, nothing_played}
+use Rattle.job_ports.specs.Ports.{all_passed}
+use Rattle.job_ports.proofs.Joining.{all_played, all_within}
 use Rattle.job_ports.proofs.running.jobs_run.Goals as goal
 
-pub loop-number-init : goal.loop-number-init
-loop-number-init c =
+pub derive_session-requires-clause-passed : goal.derive_session-requires-clause-passed
+derive_session-requires-clause-passed c =
     let session = jobs_session_of c.args.session.now in
-    let runs : c.reserve.new.self.items ≡ [] = c.in_ok-reserve.ensures.items ∙ ap (λ b. b.items) c.new-runs.ensures in
-    let ends : c.reserve-2.new.self.items ≡ [] =
-    c.in_ok-reserve-2.ensures.items ∙ ap (λ b. b.items) c.new-ends.ensures in
-    let some_runs = c.in_ok-reserve.ensures.ok in
-    let some_ends = c.in_ok-reserve-2.ensures.ok in
-    let count = c.from-count.ensures in
-    record {
-      room_for_runs = omega (arith, some_runs, count);
-      room_for_ends = omega (arith, some_ends, count);
-      played = subst (λ (xs : List PortRun).
-          AreFirstPlayed session 0 (map logged_of c.new-log.result.items) xs c.reserve-2.new.self.items)
-          (sym runs)
-          (subst (λ (xs : List PortEnd). AreFirstPlayed session 0 (map logged_of c.new-log.result.items) [] xs)
-          (sym ends)
-          (subst (λ (ls : List (Logged KeptEvent)). AreFirstPlayed session 0 (map logged_of ls) [] [])
-          (sym c.new-log.ensures.items) (nothing_played session)));
-    }
+    let log : JobLog = map logged_of c.in_ok-ran.ran.log.items in
+    let runs = c.in_ok-ran.ran.runs.items in
+    let log_is : map logged_of c.as_slice.result.now ≡ log = ap (map logged_of) c.as_slice.ensures.value in
+    let all = all_within session log runs c.in_ok-ran.ran.ends.items c.in_ok-ran.ensures in
+    subst
+    (λ (ls : JobLog).
+    ArePassedWithin (λ p. all_passed session ls p (journal_on c.as_slice-2.result.now p))) (sym log_is)
+    (subst (λ (rs : List PortRun). ArePassedWithin (λ p. all_passed session log p (journal_on rs p)))
+    (sym c.as_slice-2.ensures) all)
 
-pub loop-number-preserved : goal.loop-number-preserved
-loop-number-preserved c =
+pub returns-clause-played : goal.returns-clause-played
+returns-clause-played c =
     let session = jobs_session_of c.args.session.now in
-    let at = c.loop-number in
-    let invariant = at.invariant in
-    let runs = ap (λ b. b.spare) c.add.ensures in
-    let ends = ap (λ b. b.spare) c.add-in-loop-number.ensures in
-    let below = c.loop-number-test.true in
-    let played = c.in_ok-played.played in
-    record {
-      room_for_runs = let room = invariant.room_for_runs in omega (arith, room, runs, below);
-      room_for_ends = let room = invariant.room_for_ends in omega (arith, room, ends, below);
-      played = port_more session at.number at.log.items played.log.items c.add_log.new.log.items at.runs.items
-          c.add.new.self.items at.ends.items c.add-in-loop-number.new.self.items played.run played.end invariant.played
-          c.in_ok-played.ensures.played c.in_ok-played.ensures.own
-          c.in_ok-add_log.ensures (ap (λ b. b.items) c.add.ensures) (ap (λ b. b.items) c.add-in-loop-number.ensures);
-    }
+    let log : JobLog = map logged_of c.in_ok-ran.ran.log.items in
+    let runs = c.in_ok-ran.ran.runs.items in
+    let ends = c.in_ok-ran.ran.ends.items in
+    let log_is : map logged_of c.from_vec.result.items ≡ log =
+    ap (λ b. map logged_of b.items) c.from_vec.ensures in
+    let played = all_played session log runs ends c.requires c.in_ok-ran.ensures in
+    subst (λ (ls : JobLog). AreJobsPlayed session ls runs ends (session_of c.in_ok-derived.derived)) (sym log_is)
+    (subst (λ (derived : PlainSession). AreJobsPlayed session log runs ends derived)
+    (sym (c.in_ok-derived.ensures
+    ∙ λ i. derived_with session (map logged_of (c.as_slice.ensures.value i)) (c.as_slice-2.ensures i))) played)
 
-pub returns : goal.returns
-returns c =
+pub returns-clause-within : goal.returns-clause-within
+returns-clause-within c =
     let session = jobs_session_of c.args.session.now in
-    let at = c.loop-number in
-    let past = c.loop-number-test.false in
-    let end = at.auto.number-end in
-    let number : at.number ≡ session.ports = omega (arith, past, end) in
-    let log : JobLog = map logged_of at.log.items in
-    let all : AreFirstPlayed session session.ports log at.runs.items at.ends.items =
-    subst (λ (n : ℕ). AreFirstPlayed session n log at.runs.items at.ends.items) number at.invariant.played in
-    let kept : c.from_vec.result.items ≡ at.log.items = ap (λ b. b.items) c.from_vec.ensures in
-    record {
-      played = subst (λ (ls : List (Logged KeptEvent)). AreJobsPlayed session (map logged_of ls) at.runs.items
-          at.ends.items (derived_with session (map logged_of ls) at.runs.items))
-          (sym kept) (all_played session log at.runs.items at.ends.items c.requires all);
-      within = subst (λ (ls : List (Logged KeptEvent)).
-          ArePassedWithin (λ (p : ℕ). all_passed session (map logged_of ls) p (journal_on at.runs.items p)))
-          (sym kept) (all_within session log at.runs.items at.ends.items all);
-    }
+    let log : JobLog = map logged_of c.in_ok-ran.ran.log.items in
+    let runs = c.in_ok-ran.ran.runs.items in
+    let log_is : map logged_of c.from_vec.result.items ≡ log =
+    ap (λ b. map logged_of b.items) c.from_vec.ensures in
+    subst (λ (ls : JobLog). ArePassedWithin (λ p. all_passed session ls p (journal_on runs p))) (sym log_is)
+    (all_within session log runs c.in_ok-ran.ran.ends.items c.in_ok-ran.ensures)

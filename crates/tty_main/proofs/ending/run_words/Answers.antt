@@ -1,4 +1,6 @@
-use Rattle.std.proofs.Common.{◌≡◌, ℕ, sym, subst}
+use Rattle.std.proofs.Common.{◌≡◌, ℕ, sym, ap, subst}
+use Rattle.std.specs.Prelude.{option_map}
+use Rattle.tty_calls.specs.Sessions.{session_of}
 use Rattle.std.specs.Process.{exit_status}
 use Rattle.tty_one.specs.Endings.{texts_of}
 use Rattle.tty_one.specs.Reported.{returned}
@@ -35,12 +37,15 @@ returns g c =
       none_judged = called.none_judged;
       no_entries = called.no_entries;
       no_log = called.no_log;
+      no_modem_log = called.no_modem_log;
+      none_derived = λ other. ap (option_map session_of) (called.none_derived other);
       rest_left = called.rest;
       complete = called.complete;
       made = called.made;
       unread = called.unread;
       judged = called.judged;
       consoles = called.consoles;
+      modem_lines = called.modem_lines;
       processes = called.processes;
     }
     )

@@ -23,6 +23,5 @@ returns c =
     record {
       played = played;
       can = number_ends c.args.number c.run_session.result played;
-      no_entries = c.run_session.ensures.no_entries;
-      no_log = c.run_session.ensures.no_log;
+      own = c.run_session.ensures.own;
     }

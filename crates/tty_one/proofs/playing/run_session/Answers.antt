@@ -9,6 +9,5 @@ returns c = record {
       played_works IsOrdered c.args.telling (session_of c.args.session.now) c.in_ok-played.played c.work_of.result
       c.requires.1 c.in_ok-played.ensures.played (λ p run is. (c.in_ok-played.ensures.in_order p run is).whole)
       c.work_of.ensures.ending c.work_of.ensures.runs;
-  no_entries = c.work_of.ensures.no_entries;
-  no_log = c.work_of.ensures.no_log;
+  own = c.work_of.ensures.own;
 }

@@ -5,8 +5,9 @@ use Rattle.tty_one.specs.declared.works.Ending.TheVariants.{BadWords}
 use Rattle.tty_one.specs.Reported.{returned}
 use Rattle.tty_one.specs.Outcome.{breaks_words, WasGivenFront}
 use Rattle.tty_one.specs.Works.{brought}
-use Rattle.tty_one.proofs.Outcomes.{nothing_told, nothing_by, no_entries, no_log, completes_consoles}
-use Rattle.tty_one.proofs.Outcomes.{completes_processes, not_consoles, not_one_vt, not_processes, one_of_consoles}
+use Rattle.tty_one.proofs.Outcomes.{nothing_told, nothing_by, no_entries, no_log, no_modem_log, no_session}
+use Rattle.tty_one.proofs.Outcomes.{none_derived, completes_consoles, completes_modem_lines, not_modem_lines}
+use Rattle.tty_one.proofs.Outcomes.{not_one_modem, completes_processes, not_consoles, not_one_vt, not_processes, one_of_consoles}
 use Rattle.tty_one.proofs.Outcomes.{not_one_jobs, nothing_read, broken, done_by, refused_by, illegal_by}
 use Rattle.tty_one.proofs.Outcomes.{told_by, took_by, long_by, completes, judged, made, none_judged}
 use Rattle.tty_one.proofs.Outcomes.{unasked, unjudged, unmade, one_reads, reads_nothing, work_with}
@@ -15,8 +16,7 @@ use Rattle.tty_one.proofs.top.tty_one.Goals as goal
 pub returns-in_default-clause-broken : goal.returns-in_default-clause-broken
 returns-in_default-clause-broken g c = λ _.
     breaks_words c.in_default.ensures.other
-    (nothing_told c.tell.result c.ended.result BadWords c.tell.ensures.runs
-    c.tell.ensures.vt c.tell.ensures.jobs c.ended.ensures)
+    (nothing_told c.tell.result c.ended.result BadWords c.tell.ensures.back c.ended.ensures)
     (
     subst (λ (e : Ending). WasGivenFront (g.K.Sink.given c.args.sink.now) (g.K.Sink.given c.tell.new.sink) (text_of e))
     (ap (λ work. work.ending) c.ended.ensures) c.tell.ensures.front
@@ -58,7 +58,7 @@ returns-in-Ok-clause-told g c = told_by (g.K.Sink.given c.args.sink.now) (g.K.Si
 pub returns-in-Ok-clause-done : goal.returns-in-Ok-clause-done
 returns-in-Ok-clause-done g c =
     let done = work_with c.in-Some.command (g.S.Source.left c.args.source.now) c.in-Ok.work.ending c.tell-in-Ok.result
-    c.in-Ok.work c.tell-in-Ok.ensures.runs c.tell-in-Ok.ensures.vt c.tell-in-Ok.ensures.jobs c.in-Ok.ensures.work in
+    c.in-Ok.work c.tell-in-Ok.ensures.back c.in-Ok.ensures.work in
     done_by (texts_of c.args.words.now) c.in-Some.command (g.S.Source.left c.args.source.now)
     (g.K.Sink.given c.args.sink.now) (g.K.Sink.given c.tell-in-Ok.new.sink) (returned c.tell-in-Ok.result)
     c.in-Ok.work.ending c.tell-in-Ok.result.status c.in-Some.ensures.known.1
@@ -81,7 +81,7 @@ returns-in-Ok-clause-not_legal g c =
 pub returns-in-Ok-clause-broken : goal.returns-in-Ok-clause-broken
 returns-in-Ok-clause-broken g c = λ _.
     let done = work_with c.in-Some.command (g.S.Source.left c.args.source.now) c.in-Ok.work.ending c.tell-in-Ok.result
-    c.in-Ok.work c.tell-in-Ok.ensures.runs c.tell-in-Ok.ensures.vt c.tell-in-Ok.ensures.jobs c.in-Ok.ensures.work in
+    c.in-Ok.work c.tell-in-Ok.ensures.back c.in-Ok.ensures.work in
     broken (AreOfOne (texts_of c.args.words.now)) (AskOneToRead (texts_of c.args.words.now)) (texts_of c.args.words.now)
     c.in-Some.command _ _ _ _ _ _ (returned c.tell-in-Ok.result) c.in-Ok.work.ending c.in-Some.ensures.known.1
     c.in-Ok.ensures.can (
@@ -91,7 +91,7 @@ returns-in-Ok-clause-broken g c = λ _.
 pub returns-in-Ok-clause-complete : goal.returns-in-Ok-clause-complete
 returns-in-Ok-clause-complete g c =
     let done = work_with c.in-Some.command (g.S.Source.left c.args.source.now) c.in-Ok.work.ending c.tell-in-Ok.result
-    c.in-Ok.work c.tell-in-Ok.ensures.runs c.tell-in-Ok.ensures.vt c.tell-in-Ok.ensures.jobs c.in-Ok.ensures.work in
+    c.in-Ok.work c.tell-in-Ok.ensures.back c.in-Ok.ensures.work in
     completes (AreRunOne (texts_of c.args.words.now)) (texts_of c.args.words.now) c.in-Some.command (g.S.Source.left c.args.source.now)
     (g.S.Source.left c.work_on.new.source) (g.S.Source.faults c.args.source.now)
     (g.S.Source.faults c.work_on.new.source) (returned c.tell-in-Ok.result) c.in-Ok.work.ending
@@ -112,7 +112,7 @@ returns-in-Ok-clause-made g c = made (texts_of c.args.words.now) c.in-Some.comma
 pub returns-in-Ok-clause-none_judged : goal.returns-in-Ok-clause-none_judged
 returns-in-Ok-clause-none_judged g c =
     let done = work_with c.in-Some.command (g.S.Source.left c.args.source.now) c.in-Ok.work.ending c.tell-in-Ok.result
-    c.in-Ok.work c.tell-in-Ok.ensures.runs c.tell-in-Ok.ensures.vt c.tell-in-Ok.ensures.jobs c.in-Ok.ensures.work in
+    c.in-Ok.work c.tell-in-Ok.ensures.back c.in-Ok.ensures.work in
     none_judged (texts_of c.args.words.now) c.in-Some.command (g.S.Source.left c.args.source.now)
     (returned c.tell-in-Ok.result) c.in-Ok.work.ending c.in-Some.ensures.known.1 done
 
@@ -131,7 +131,7 @@ returns-in_default-clause-consoles g c = not_consoles (AskVtOne (texts_of c.args
 pub returns-in-Ok-clause-consoles : goal.returns-in-Ok-clause-consoles
 returns-in-Ok-clause-consoles g c =
     let done = work_with c.in-Some.command (g.S.Source.left c.args.source.now) c.in-Ok.work.ending c.tell-in-Ok.result
-    c.in-Ok.work c.tell-in-Ok.ensures.runs c.tell-in-Ok.ensures.vt c.tell-in-Ok.ensures.jobs c.in-Ok.ensures.work in
+    c.in-Ok.work c.tell-in-Ok.ensures.back c.in-Ok.ensures.work in
     completes_consoles (AskVtOne (texts_of c.args.words.now)) (texts_of c.args.words.now) c.in-Some.command (g.S.Source.left c.args.source.now)
     (g.S.Source.left c.work_on.new.source) (g.S.Source.faults c.args.source.now)
     (g.S.Source.faults c.work_on.new.source) (returned c.tell-in-Ok.result) c.in-Ok.work.ending
@@ -141,23 +141,36 @@ returns-in-Ok-clause-consoles g c =
 pub returns-in-Ok-clause-no_runs : goal.returns-in-Ok-clause-no_runs
 returns-in-Ok-clause-no_runs g c =
     let done = work_with c.in-Some.command (g.S.Source.left c.args.source.now) c.in-Ok.work.ending c.tell-in-Ok.result
-    c.in-Ok.work c.tell-in-Ok.ensures.runs c.tell-in-Ok.ensures.vt c.tell-in-Ok.ensures.jobs c.in-Ok.ensures.work in
+    c.in-Ok.work c.tell-in-Ok.ensures.back c.in-Ok.ensures.work in
     nothing_by c.in-Some.command (g.S.Source.left c.args.source.now) (returned c.tell-in-Ok.result) c.in-Ok.work.ending
     c.tell-in-Ok.result.status done c.tell-in-Ok.ensures.status
 
 pub returns-in-Ok-clause-no_entries : goal.returns-in-Ok-clause-no_entries
 returns-in-Ok-clause-no_entries g c = λ other.
-    ap (λ entries. entries.items) c.tell-in-Ok.ensures.vt
+    ap (λ back. back.entries) c.tell-in-Ok.ensures.back
     ∙ no_entries (texts_of c.args.words.now) c.in-Some.command (brought c.in-Ok.work)
-    c.in-Some.ensures.known.1 c.in-Ok.ensures.entries
+    c.in-Some.ensures.known.1 c.in-Ok.ensures.own
     (λ asks. other (one_of_consoles (texts_of c.args.words.now)
     (c.in-Some.command, c.in-Some.ensures.known.0, c.in-Some.ensures.known.1) asks))
 
 pub returns-in-Ok-clause-no_log : goal.returns-in-Ok-clause-no_log
 returns-in-Ok-clause-no_log g c = λ other.
-    ap (λ log. log.items) c.tell-in-Ok.ensures.jobs
+    ap (λ back. back.log) c.tell-in-Ok.ensures.back
     ∙ no_log (texts_of c.args.words.now) c.in-Some.command (brought c.in-Ok.work)
-    c.in-Some.ensures.known.1 c.in-Ok.ensures.log other
+    c.in-Some.ensures.known.1 c.in-Ok.ensures.own other
+
+pub returns-in-Ok-clause-no_modem_log : goal.returns-in-Ok-clause-no_modem_log
+returns-in-Ok-clause-no_modem_log g c = λ other.
+    ap (λ back. back.modem_log) c.tell-in-Ok.ensures.back
+    ∙ no_modem_log (texts_of c.args.words.now) c.in-Some.command (brought c.in-Ok.work)
+    c.in-Some.ensures.known.1 c.in-Ok.ensures.own other
+
+pub returns-in-Ok-clause-none_derived : goal.returns-in-Ok-clause-none_derived
+returns-in-Ok-clause-none_derived g c = λ other.
+    no_session c.tell-in-Ok.result.derived
+    (ap (λ back. back.derived) c.tell-in-Ok.ensures.back
+    ∙ none_derived (texts_of c.args.words.now) c.in-Some.command (brought c.in-Ok.work)
+    c.in-Some.ensures.known.1 c.in-Ok.ensures.own other)
 
 pub returns-in_default-clause-processes : goal.returns-in_default-clause-processes
 returns-in_default-clause-processes g c = not_processes (texts_of c.args.words.now) (g.S.Source.left c.args.source.now)
@@ -166,8 +179,23 @@ returns-in_default-clause-processes g c = not_processes (texts_of c.args.words.n
 pub returns-in-Ok-clause-processes : goal.returns-in-Ok-clause-processes
 returns-in-Ok-clause-processes g c =
     let done = work_with c.in-Some.command (g.S.Source.left c.args.source.now) c.in-Ok.work.ending c.tell-in-Ok.result
-    c.in-Ok.work c.tell-in-Ok.ensures.runs c.tell-in-Ok.ensures.vt c.tell-in-Ok.ensures.jobs c.in-Ok.ensures.work in
+    c.in-Ok.work c.tell-in-Ok.ensures.back c.in-Ok.ensures.work in
     completes_processes (texts_of c.args.words.now) c.in-Some.command (g.S.Source.left c.args.source.now)
+    (g.S.Source.left c.work_on.new.source) (g.S.Source.faults c.args.source.now)
+    (g.S.Source.faults c.work_on.new.source) (returned c.tell-in-Ok.result) c.in-Ok.work.ending
+    c.tell-in-Ok.result.status c.in-Some.ensures.known.1 c.tell-in-Ok.ensures.status
+    c.in-Ok.ensures.from done c.in-Ok.ensures.rest
+
+pub returns-in_default-clause-modem_lines : goal.returns-in_default-clause-modem_lines
+returns-in_default-clause-modem_lines g c =
+    not_modem_lines (texts_of c.args.words.now) (g.S.Source.left c.args.source.now) _ _ _
+    (not_one_modem (texts_of c.args.words.now) c.in_default.ensures.other)
+
+pub returns-in-Ok-clause-modem_lines : goal.returns-in-Ok-clause-modem_lines
+returns-in-Ok-clause-modem_lines g c =
+    let done = work_with c.in-Some.command (g.S.Source.left c.args.source.now) c.in-Ok.work.ending c.tell-in-Ok.result
+    c.in-Ok.work c.tell-in-Ok.ensures.back c.in-Ok.ensures.work in
+    completes_modem_lines (texts_of c.args.words.now) c.in-Some.command (g.S.Source.left c.args.source.now)
     (g.S.Source.left c.work_on.new.source) (g.S.Source.faults c.args.source.now)
     (g.S.Source.faults c.work_on.new.source) (returned c.tell-in-Ok.result) c.in-Ok.work.ending
     c.tell-in-Ok.result.status c.in-Some.ensures.known.1 c.tell-in-Ok.ensures.status

@@ -10,6 +10,5 @@ returns g c = record {
       played_works IsInAnyOrder (Report c.args.journals) (session_of c.args.session.now) c.in_ok-played.played
       c.work_of.result c.requires.1 c.in_ok-played.ensures (λ p run is room. tt)
       c.work_of.ensures.ending c.work_of.ensures.runs;
-  no_entries = c.work_of.ensures.no_entries;
-  no_log = c.work_of.ensures.no_log;
+  own = c.work_of.ensures.own;
 }

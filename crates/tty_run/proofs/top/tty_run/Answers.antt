@@ -3,10 +3,11 @@ use Rattle.tty_one.specs.Endings.{AreKnown, AreRunOne, AskConsoles, AskToPlay, A
 use Rattle.tty_one.specs.Reported.{returned}
 use Rattle.tty_one.specs.Works.{brought}
 use Rattle.tty_one.proofs.Outcomes.{broken, completes, completes_consoles, done_by, illegal_by, judged, long_by, made}
+use Rattle.tty_one.proofs.Outcomes.{no_log, no_modem_log, no_session, none_derived, not_modem_lines}
 use Rattle.tty_one.proofs.Outcomes.{no_entries, none_judged, not_processes, nothing_by, one_if_not_on_threads}
 use Rattle.tty_one.proofs.Outcomes.{reads_nothing, refused_by, threads_read, told_by, took_by, work_with}
 use Rattle.tty_run.proofs.WordLemmas.{broken_one, consoles_headline, consoles_one, for_fewer, headline, not_run, not_vt}
-use Rattle.tty_run.proofs.WordLemmas.{play_one, threads_are_not_jobs, threads_end, threads_reading, unknown_to_one}
+use Rattle.tty_run.proofs.WordLemmas.{play_one, threads_are_not_jobs, threads_are_not_modem, threads_end, threads_reading, unknown_to_one}
 use Rattle.tty_run.proofs.top.tty_run.Goals as goal
 
 -- ---- one thread
@@ -51,7 +52,7 @@ returns-in_default-clause-no_entries g c = λ other. c.tty_one.ensures.no_entrie
 pub returns-in-Ok-clause-headline : goal.returns-in-Ok-clause-headline
 returns-in-Ok-clause-headline g c = λ run zero_is.
     let done = work_with c.in-Some.command (g.S.Source.left c.args.source.now) c.in-Ok.work.ending c.tell.result
-    c.in-Ok.work c.tell.ensures.runs c.tell.ensures.vt c.tell.ensures.jobs c.in-Ok.ensures.work in
+    c.in-Ok.work c.tell.ensures.back c.in-Ok.ensures.work in
     headline (texts_of c.args.words.now) (g.S.Source.left c.args.source.now) (g.K.Sink.given c.args.sink.now)
     (g.K.Sink.given c.tell.new.sink) (returned c.tell.result) run (
     done_by (texts_of c.args.words.now) c.in-Some.command (g.S.Source.left c.args.source.now)
@@ -62,7 +63,7 @@ returns-in-Ok-clause-headline g c = λ run zero_is.
 pub returns-in-Ok-clause-consoles_headline : goal.returns-in-Ok-clause-consoles_headline
 returns-in-Ok-clause-consoles_headline g c = λ vt zero_is.
     let done = work_with c.in-Some.command (g.S.Source.left c.args.source.now) c.in-Ok.work.ending c.tell.result
-    c.in-Ok.work c.tell.ensures.runs c.tell.ensures.vt c.tell.ensures.jobs c.in-Ok.ensures.work in
+    c.in-Ok.work c.tell.ensures.back c.in-Ok.ensures.work in
     consoles_headline (texts_of c.args.words.now) (g.S.Source.left c.args.source.now) (g.K.Sink.given c.args.sink.now)
     (g.K.Sink.given c.tell.new.sink) (returned c.tell.result) vt (
     done_by (texts_of c.args.words.now) c.in-Some.command (g.S.Source.left c.args.source.now)
@@ -85,7 +86,7 @@ returns-in-Ok-clause-told g c = told_by (g.K.Sink.given c.args.sink.now) (g.K.Si
 pub returns-in-Ok-clause-done : goal.returns-in-Ok-clause-done
 returns-in-Ok-clause-done g c =
     let done = work_with c.in-Some.command (g.S.Source.left c.args.source.now) c.in-Ok.work.ending c.tell.result
-    c.in-Ok.work c.tell.ensures.runs c.tell.ensures.vt c.tell.ensures.jobs c.in-Ok.ensures.work in
+    c.in-Ok.work c.tell.ensures.back c.in-Ok.ensures.work in
     done_by (texts_of c.args.words.now) c.in-Some.command (g.S.Source.left c.args.source.now)
     (g.K.Sink.given c.args.sink.now) (g.K.Sink.given c.tell.new.sink) (returned c.tell.result) c.in-Ok.work.ending
     c.tell.result.status c.in-Some.ensures.known.1 done c.tell.ensures.status c.tell.ensures.whole
@@ -105,7 +106,7 @@ returns-in-Ok-clause-not_legal g c =
 pub returns-in-Ok-clause-broken : goal.returns-in-Ok-clause-broken
 returns-in-Ok-clause-broken g c = λ _.
     let done = work_with c.in-Some.command (g.S.Source.left c.args.source.now) c.in-Ok.work.ending c.tell.result
-    c.in-Ok.work c.tell.ensures.runs c.tell.ensures.vt c.tell.ensures.jobs c.in-Ok.ensures.work in
+    c.in-Ok.work c.tell.ensures.back c.in-Ok.ensures.work in
     broken (AreKnown (texts_of c.args.words.now)) (AskToRead (texts_of c.args.words.now)) (texts_of c.args.words.now)
     c.in-Some.command _ _ _ _ _ _ (returned c.tell.result) c.in-Ok.work.ending c.in-Some.ensures.known.1
     (threads_end c.in-Some.command c.in-Ok.work.ending c.in-Some.ensures.known.0)
@@ -115,7 +116,7 @@ returns-in-Ok-clause-broken g c = λ _.
 pub returns-in-Ok-clause-complete : goal.returns-in-Ok-clause-complete
 returns-in-Ok-clause-complete g c =
     let done = work_with c.in-Some.command (g.S.Source.left c.args.source.now) c.in-Ok.work.ending c.tell.result
-    c.in-Ok.work c.tell.ensures.runs c.tell.ensures.vt c.tell.ensures.jobs c.in-Ok.ensures.work in
+    c.in-Ok.work c.tell.ensures.back c.in-Ok.ensures.work in
     completes (AskToPlay (texts_of c.args.words.now)) (texts_of c.args.words.now) c.in-Some.command
     (g.S.Source.left c.args.source.now) (g.S.Source.left c.work_on.new.source) (g.S.Source.faults c.args.source.now)
     (g.S.Source.faults c.work_on.new.source) (returned c.tell.result) c.in-Ok.work.ending c.tell.result.status
@@ -136,7 +137,7 @@ returns-in-Ok-clause-made g c = made (texts_of c.args.words.now) c.in-Some.comma
 pub returns-in-Ok-clause-none_judged : goal.returns-in-Ok-clause-none_judged
 returns-in-Ok-clause-none_judged g c =
     let done = work_with c.in-Some.command (g.S.Source.left c.args.source.now) c.in-Ok.work.ending c.tell.result
-    c.in-Ok.work c.tell.ensures.runs c.tell.ensures.vt c.tell.ensures.jobs c.in-Ok.ensures.work in
+    c.in-Ok.work c.tell.ensures.back c.in-Ok.ensures.work in
     none_judged (texts_of c.args.words.now) c.in-Some.command (g.S.Source.left c.args.source.now)
     (returned c.tell.result) c.in-Ok.work.ending c.in-Some.ensures.known.1 done
 
@@ -159,27 +160,55 @@ returns-in-Err-clause-other_words g c = λ unknown. absurd (unknown (c.in-Some.c
 pub returns-in-Ok-clause-no_runs : goal.returns-in-Ok-clause-no_runs
 returns-in-Ok-clause-no_runs g c =
     let done = work_with c.in-Some.command (g.S.Source.left c.args.source.now) c.in-Ok.work.ending c.tell.result
-    c.in-Ok.work c.tell.ensures.runs c.tell.ensures.vt c.tell.ensures.jobs c.in-Ok.ensures.work in
+    c.in-Ok.work c.tell.ensures.back c.in-Ok.ensures.work in
     nothing_by c.in-Some.command (g.S.Source.left c.args.source.now) (returned c.tell.result) c.in-Ok.work.ending
     c.tell.result.status done c.tell.ensures.status
 
 pub returns-in-Ok-clause-no_entries : goal.returns-in-Ok-clause-no_entries
 returns-in-Ok-clause-no_entries g c = λ other.
-    ap (λ entries. entries.items) c.tell.ensures.vt
+    ap (λ back. back.entries) c.tell.ensures.back
     ∙ no_entries (texts_of c.args.words.now) c.in-Some.command (brought c.in-Ok.work)
-    c.in-Some.ensures.known.1 c.in-Ok.ensures.entries other
+    c.in-Some.ensures.known.1 c.in-Ok.ensures.own other
 
 pub returns-in-Ok-clause-consoles : goal.returns-in-Ok-clause-consoles
 returns-in-Ok-clause-consoles g c =
     let done = work_with c.in-Some.command (g.S.Source.left c.args.source.now) c.in-Ok.work.ending c.tell.result
-    c.in-Ok.work c.tell.ensures.runs c.tell.ensures.vt c.tell.ensures.jobs c.in-Ok.ensures.work in
+    c.in-Ok.work c.tell.ensures.back c.in-Ok.ensures.work in
     completes_consoles (AskConsoles (texts_of c.args.words.now)) (texts_of c.args.words.now) c.in-Some.command
     (g.S.Source.left c.args.source.now) (g.S.Source.left c.work_on.new.source) (g.S.Source.faults c.args.source.now)
     (g.S.Source.faults c.work_on.new.source) (returned c.tell.result) c.in-Ok.work.ending c.tell.result.status
     (λ asks. asks) c.in-Some.ensures.known.1 c.tell.ensures.status c.in-Ok.ensures.from done c.in-Ok.ensures.rest
 
 pub returns-in-Ok-clause-no_log : goal.returns-in-Ok-clause-no_log
-returns-in-Ok-clause-no_log g c = λ _. ap (λ log. log.items) c.tell.ensures.jobs ∙ c.in-Ok.ensures.no_log
+returns-in-Ok-clause-no_log g c = λ other.
+    ap (λ back. back.log) c.tell.ensures.back
+    ∙ no_log (texts_of c.args.words.now) c.in-Some.command (brought c.in-Ok.work)
+    c.in-Some.ensures.known.1 c.in-Ok.ensures.own other
+
+pub returns-in-Ok-clause-no_modem_log : goal.returns-in-Ok-clause-no_modem_log
+returns-in-Ok-clause-no_modem_log g c = λ other.
+    ap (λ back. back.modem_log) c.tell.ensures.back
+    ∙ no_modem_log (texts_of c.args.words.now) c.in-Some.command (brought c.in-Ok.work)
+    c.in-Some.ensures.known.1 c.in-Ok.ensures.own other
+
+pub returns-in-Ok-clause-none_derived : goal.returns-in-Ok-clause-none_derived
+returns-in-Ok-clause-none_derived g c = λ other.
+    no_session c.tell.result.derived
+    (ap (λ back. back.derived) c.tell.ensures.back
+    ∙ none_derived (texts_of c.args.words.now) c.in-Some.command (brought c.in-Ok.work)
+    c.in-Some.ensures.known.1 c.in-Ok.ensures.own other)
+
+pub returns-in-Ok-clause-modem_lines : goal.returns-in-Ok-clause-modem_lines
+returns-in-Ok-clause-modem_lines g c =
+    not_modem_lines (texts_of c.args.words.now) (g.S.Source.left c.args.source.now) _ _ _
+    (λ modem. threads_are_not_modem (texts_of c.args.words.now) c.in-Some.command c.in-Some.ensures.known.0
+    c.in-Some.ensures.known.1 modem)
+
+pub returns-in-Err-clause-modem_lines : goal.returns-in-Err-clause-modem_lines
+returns-in-Err-clause-modem_lines g c =
+    not_modem_lines (texts_of c.args.words.now) (g.S.Source.left c.args.source.now) _ _ _
+    (λ modem. threads_are_not_modem (texts_of c.args.words.now) c.in-Some.command c.in-Some.ensures.known.0
+    c.in-Some.ensures.known.1 modem)
 
 pub returns-in-Ok-clause-processes : goal.returns-in-Ok-clause-processes
 returns-in-Ok-clause-processes g c = not_processes (texts_of c.args.words.now) (g.S.Source.left c.args.source.now) _ _ _

@@ -31,6 +31,6 @@ returns g t c =
     let operated : OperatorComes stage.board.now stage.names.now (vt_phase_of stage.phase.now) c.len-number.result one =
     first_of (search rules, cc) in
     board_ok stage c.args.hand fewer seats.items c.in-Some.seat c.in-Some.ensures.items refl refl
-    c.with_operator.result back one comes
+    c.with_operator.result back one c.requires.count comes
     (subst (λ (n : ℕ). OperatorComes stage.board.now stage.names.now (vt_phase_of stage.phase.now) n one) is operated)
     c.with_operator.ensures

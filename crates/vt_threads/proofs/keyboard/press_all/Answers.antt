@@ -39,7 +39,7 @@ returns-in_err-press-clause-err g c =
     where_any_err c.from_residual.result _
     (presses_first c.args.number c.args.first c.loop-place.place c.args.keys.now c.args.seat.now c.loop-place.seat
     c.press.new.seat c.args.keyed.now.lines.items c.loop-place.keyed.lines.items c.press.new.keyed.lines.items
-    c.args.keyed.now.ends.items c.loop-place.keyed.ends.items c.press.new.keyed.ends.items c.loop-place.invariant.within
+    c.args.keyed.now.ends.items c.loop-place.keyed.ends.items c.press.new.keyed.ends.items (omega arith)
     c.in_err-press.ensures.err c.in_err-press.ensures.lines c.in_err-press.ensures.ends c.loop-place.invariant.so_far)
 
 pub loop-place-preserved : goal.loop-place-preserved

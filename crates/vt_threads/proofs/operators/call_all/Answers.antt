@@ -1,7 +1,7 @@
 use Rattle.std.proofs.Common.{rules, ◌+◌, ◌∷◌, [], drop, get_or}
 use Rattle.std.proofs.lemmas.List.{drop_all}
 use Rattle.vt_consoles.specs.Shared.{name_of_board}
-use Rattle.vt_text.specs.declared.sessions.OpCall.TheVariants.{State}
+use Rattle.vt_text.specs.declared.sessions.OpCall.TheVariants.{Activate}
 use Rattle.vt_threads.proofs.SeatLemmas.{up_to_none, up_to_more, up_to_all, first_then}
 use Rattle.vt_threads.proofs.SeatLemmas.{first_none, next_item, next_or, where_any_err}
 use Rattle.vt_threads.proofs.operators.call_all.Goals as goal
@@ -18,12 +18,13 @@ returns-in_err-call_one-clause-err g c =
     let n = c.args.number in
     let calls = c.args.calls.now in
     let i = c.loop-call.call-index in
-    let call = get_or calls i State in
+    let call = get_or calls i (Activate 0) in
     where_any_err c.from_residual.result _
     (first_then k n calls (drop i calls) (call ∷ []) (drop (i + 1) calls) c.args.seat.now c.loop-call.seat
-    c.call_one.new.seat (next_or calls i State c.loop-call-test.true)
+    c.call_one.new.seat (next_or calls i (Activate 0) c.loop-call-test.true)
     c.loop-call.invariant.so_far
-    (first_none k n (call ∷ []) c.loop-call.seat c.call_one.new.seat c.in_err-call_one.ensures.err))
+    (first_none k n (call ∷ []) c.loop-call.seat c.call_one.new.seat c.in_err-call_one.ensures.err
+    c.in_err-call_one.ensures.accepted))
 
 pub loop-call-preserved : goal.loop-call-preserved
 loop-call-preserved g c =

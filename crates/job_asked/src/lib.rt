@@ -1,7 +1,0 @@
-//! How much a session of processes asks of a port: no more than its text is long, and what the ports were passed asks
-//! no more than the session.
-#![tactic(auto)]
-
-mod laws;
-
-pub use laws::{a_text_is_as_long_as_its_session_asks, what_is_passed_asks_no_more};

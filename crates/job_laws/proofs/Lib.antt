@@ -1,0 +1,13 @@
+mod Bounds
+mod Deciding
+mod Due
+mod Journeys
+mod LogLaws
+pub mod OnePort
+mod OneReport
+mod ReadLaws
+mod Settling
+mod SignalLaws
+mod Stepping
+mod TwoLogs
+mod Whole

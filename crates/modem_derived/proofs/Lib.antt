@@ -1,0 +1,4 @@
+pub mod Silent
+pub mod Carried
+pub mod Derived
+pub mod Listed

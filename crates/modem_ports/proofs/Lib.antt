@@ -1,0 +1,15 @@
+pub mod Stopping
+pub mod Lines
+pub mod Counted
+pub mod Logged
+pub mod Resting
+pub mod Phased
+pub mod Stopped
+pub mod Pins
+pub mod Casting
+pub mod Beginning
+pub mod Whole
+pub mod Playing
+pub mod Starting
+pub mod Ended
+pub mod Joining
