@@ -1,17 +1,16 @@
 -- Scripts whose calls are taken one by one: those for the port, and the others at their places.
 use Rattle.std.proofs.Common.{◌≡◌, ◌≤◌, ◌<◌, ◌⊎◌, inl, inr, ℕ, zero, suc, ◌+◌, ◌-◌, ◌==◌, Bool, true, false, cond}
-use Rattle.std.proofs.Common.{not, ◌&&◌, List, [], ◌∷◌, ◌++◌, Option, None, Some, length, map, filter, take, drop}
+use Rattle.std.proofs.Common.{◌&&◌, List, [], ◌∷◌, ◌++◌, Option, None, Some, length, map, filter, take, drop}
 use Rattle.std.proofs.Common.{if◌then◌else◌, refl, sym, ap, ◌∙◌, subst, arith, append-nil, append_assoc}
 use Rattle.std.specs.Prelude.{All, IfSome, MatchOption, nat_lt, option_map}
-use Rattle.std.specs.Prelude.{position, slice_get, slice_index_or, slice_set}
-use Rattle.std.specs.List.{position_or_len}
+use Rattle.std.specs.Prelude.{slice_get, slice_index_or, slice_set}
 use Rattle.std.proofs.lemmas.Bool.{eq-eqb, ne_eqb}
 use Rattle.std.proofs.lemmas.List.Elements.{All-nil, All-cons, All-head, All-tail, All-push}
 use Rattle.std.proofs.lemmas.Bool.Decides.{nat_tests}
 use Rattle.tty_calls.specs.declared.sessions.Script.{Script}
 use Rattle.tty_calls.specs.Plain.{PlainCall}
 use Rattle.tty_calls.specs.Sessions.{script_of}
-use Rattle.one_thread.specs.Roles.{calls_in}
+use Rattle.play_base.specs.Roles.{calls_in}
 use Rattle.passed_calls.specs.declared.placed.PlacedCall.{PlacedCall}
 use Rattle.passed_calls.specs.Scripts.{AnyCall, CallerScript, plain, further, mixed, mixed_scripts, count_in}
 use Rattle.calls_left.specs.declared.remaining.NextCall.{NextCall}
@@ -33,7 +32,8 @@ not_lt a b le = grind (arith, nat_tests)
 abbrev glued : {C : Type 0} → ℕ → List PlainCall → PlacedCall C → List (PlacedCall C) → List (AnyCall C)
 glued k calls o os = map plain (take k calls) ++ further o.call ∷ mixed (o.place + 1) (drop k calls) os
 
-glued_none : {C : Type 0} (k : ℕ) (o : PlacedCall C) (os : List (PlacedCall C)) → glued k [] o os ≡ further o.call ∷ mixed (o.place + 1) [] os
+glued_none : {C : Type 0} (k : ℕ) (o : PlacedCall C) (os : List (PlacedCall C)) → glued k [] o os
+    ≡ further o.call ∷ mixed (o.place + 1) [] os
 glued_none zero o os = refl
 glued_none (suc k) o os = refl
 
@@ -132,7 +132,8 @@ part_one xs first end x lt is =
 -- ---- a call was taken
 
 -- one that the port never sees, before which no call for the port stands
-pub own_taken : {C : Type 0} (all : List PlainCall) (placed : List (PlacedCall C)) (n taken first end : ℕ) (o : PlacedCall C)
+pub own_taken : {C : Type 0} (all : List PlainCall) (placed : List (PlacedCall C)) (n taken first end : ℕ)
+    (o : PlacedCall C)
     → first < end
     → slice_get (part first end placed) 0 ≡ Some o
     → (taken < length all → o.place ≤ n)
@@ -248,7 +249,8 @@ some_step : {C : Type 0} (scripts : List Script) (placed : List (PlacedCall C)) 
 some_step {C} scripts placed c o marked within is true both =
     let parts = both_true (nat_lt c.taken (length (all_plain scripts c))) (nat_lt (place_of c) o.place) both in
     plain_step scripts placed c marked (lt_of c.taken (length (all_plain scripts c)) parts.0)
-    (λ x at. subst (λ (y : PlacedCall C). place_of c < y.place) (some_is o x (sym is ∙ at)) (lt_of (place_of c) o.place parts.1))
+    (λ x at. subst (λ (y : PlacedCall C). place_of c < y.place) (some_is o x (sym is ∙ at))
+    (lt_of (place_of c) o.place parts.1))
 some_step scripts placed c o marked within is false not_both =
     let at : place_of (record c { mark = c.taken; last = Some o.place; first = c.first + 1 }) ≡ o.place + 1 =
     omega arith in
@@ -258,7 +260,8 @@ some_step scripts placed c o marked within is false not_both =
     (not_second (nat_lt c.taken (length (all_plain scripts c))) (nat_lt (place_of c) o.place) not_both
     (is_lt c.taken (length (all_plain scripts c)) lt)))
 
-pub steps_on : {C : Type 0} (scripts : List Script) (placed : List (PlacedCall C)) (c : Cursor) (count : ℕ) (own : Option (PlacedCall C))
+pub steps_on : {C : Type 0} (scripts : List Script) (placed : List (PlacedCall C)) (c : Cursor) (count : ℕ)
+    (own : Option (PlacedCall C))
     → IsMarked c
     → count ≡ length (all_plain scripts c)
     → own ≡ slice_get (own_from placed c) 0
@@ -276,7 +279,8 @@ one_marked : (b : Bool) (c d : Cursor) → IsMarked c → IsMarked d → IsMarke
 one_marked true c d p q = p
 one_marked false c d p q = q
 
-pub stays_marked : {C : Type 0} (count : ℕ) (own : Option (PlacedCall C)) (c : Cursor) → IsMarked c → IsMarked (passed_cursor count own c)
+pub stays_marked : {C : Type 0} (count : ℕ) (own : Option (PlacedCall C)) (c : Cursor) → IsMarked c
+    → IsMarked (passed_cursor count own c)
 stays_marked count None c marked = one_marked (nat_lt c.taken count) (plain_next c) c (omega (arith, marked)) marked
 stays_marked count (Some o) c marked =
     one_marked (nat_lt c.taken count && nat_lt (place_of c) o.place) (plain_next c)
@@ -313,7 +317,8 @@ drop_more (suc a) b (x ∷ xs) =
 abbrev pub starts : ℕ → ℕ → ℕ → Cursor
 starts place first end = record { script = place; taken = 0; mark = 0; last = None; first = first; end = end }
 
-pub starts_with_all : {C : Type 0} (scripts : List Script) (placed : List (PlacedCall C)) (place first count : ℕ) (s : Script)
+pub starts_with_all : {C : Type 0} (scripts : List Script) (placed : List (PlacedCall C)) (place first count : ℕ)
+    (s : Script)
     → slice_get scripts place ≡ Some s
     → calls_from scripts placed (starts place first (first + count))
     ≡ mixed 0 s.calls.items (take count (drop first placed))
@@ -326,17 +331,20 @@ one_more : {C : Type 0} (p : ℕ) (b : Bool) (s : CallerScript (AnyCall C)) (ss 
     → its_calls p (s ∷ ss) ≡ (if b then s.calls ∷ its_calls p ss else its_calls p ss)
 one_more {C} p b s ss is =
     ap (λ (t : Bool).
-    map (λ (x : CallerScript (AnyCall C)). x.calls) (cond t (s ∷ filter (λ x. x.port == p) ss) (filter (λ x. x.port == p) ss))) is
+    map (λ (x : CallerScript (AnyCall C)). x.calls) (cond t (s ∷ filter (λ x. x.port == p) ss)
+    (filter (λ x. x.port == p) ss))) is
     ∙ either b s ss
   where
     either : (b : Bool) (s : CallerScript (AnyCall C)) (ss : List (CallerScript (AnyCall C)))
-        → map (λ (x : CallerScript (AnyCall C)). x.calls) (cond b (s ∷ filter (λ x. x.port == p) ss) (filter (λ x. x.port == p) ss))
+        → map (λ (x : CallerScript (AnyCall C)). x.calls) (cond b (s ∷ filter (λ x. x.port == p) ss)
+        (filter (λ x. x.port == p) ss))
         ≡ (if b then s.calls ∷ its_calls p ss else its_calls p ss)
     either true s ss = refl
     either false s ss = refl
 
 -- what a walk over the scripts has: cursors for those before a place, and those from there on
-pub record HasCursors {C : Type 0} (p : ℕ) (scripts : List Script) (placed : List (PlacedCall C)) (cursors : List Cursor)
+pub record HasCursors {C : Type 0} (p : ℕ) (scripts : List Script) (placed : List (PlacedCall C))
+    (cursors : List Cursor)
     (place first : ℕ) : Type 0 where
   pub all : map (calls_from scripts placed) cursors
       ++ its_calls p (mixed_scripts place (map script_of (drop place scripts)) (drop first placed))
@@ -360,7 +368,8 @@ rest_calls p scripts placed place first =
     its_calls p (mixed_scripts place (map script_of (drop place scripts)) (drop first placed))
 
 -- the script at a place, and those behind it
-rest_at : {C : Type 0} (p : ℕ) (scripts : List Script) (placed : List (PlacedCall C)) (place first count : ℕ) (s : Script) (b : Bool)
+rest_at : {C : Type 0} (p : ℕ) (scripts : List Script) (placed : List (PlacedCall C)) (place first count : ℕ)
+    (s : Script) (b : Bool)
     → drop place scripts ≡ s ∷ drop (place + 1) scripts
     → count ≡ count_in place (drop first placed)
     → (s.port == p) ≡ b
@@ -384,7 +393,8 @@ rest_at {C} p scripts placed place first count s b at many is =
     (mixed_scripts (place + 1) (map script_of (drop (place + 1) scripts)) (behind_it i))
     else its_calls p (mixed_scripts (place + 1) (map script_of (drop (place + 1) scripts)) (behind_it i)))
 
-pub own_cursor : {C : Type 0} (p : ℕ) (scripts : List Script) (placed : List (PlacedCall C)) (cursors more : List Cursor) (place first end : ℕ)
+pub own_cursor : {C : Type 0} (p : ℕ) (scripts : List Script) (placed : List (PlacedCall C))
+    (cursors more : List Cursor) (place first end : ℕ)
     (s : Script) (c : Cursor)
     → HasCursors p scripts placed cursors place first
     → place < length scripts
@@ -419,7 +429,8 @@ own_cursor {C} p scripts placed cursors more place first end s c h lt is ends wi
       within = within;
     }
 
-pub other_script : {C : Type 0} (p : ℕ) (scripts : List Script) (placed : List (PlacedCall C)) (cursors more : List Cursor)
+pub other_script : {C : Type 0} (p : ℕ) (scripts : List Script) (placed : List (PlacedCall C))
+    (cursors more : List Cursor)
     (place first end : ℕ) (s : Script)
     → HasCursors p scripts placed cursors place first
     → place < length scripts
@@ -441,7 +452,8 @@ other_script {C} p scripts placed cursors more place first end s h lt is ends wi
       within = within;
     }
 
-pub all_cursors : {C : Type 0} (p : ℕ) (scripts : List Script) (placed : List (PlacedCall C)) (cursors : List Cursor) (place first : ℕ)
+pub all_cursors : {C : Type 0} (p : ℕ) (scripts : List Script) (placed : List (PlacedCall C)) (cursors : List Cursor)
+    (place first : ℕ)
     → HasCursors p scripts placed cursors place first
     → length scripts ≤ place
     → map (calls_from scripts placed) cursors ≡ calls_of_port p scripts placed
@@ -451,23 +463,6 @@ all_cursors p scripts placed cursors place first h past =
     (drop_none scripts place past)
     ∙ append-nil calls)
     ∙ h.all
-
--- ---- the count of a script's calls that the port never sees
-
-found : {C : Type 0} (p : PlacedCall C → Bool) (xs : List (PlacedCall C)) (n : ℕ) → position p xs ≡ Some n → n < length xs
-found p xs n h =
-    let place = position_or_len p xs in
-    let at = some_then (nat_lt place (length xs)) place n h in
-    subst (λ (m : ℕ). m < length xs) at.1 (lt_of place (length xs) at.0)
-  where
-    some_then : (b : Bool) (place n : ℕ) → (if b then Some place else None) ≡ Some n → (b ≡ true) × (place ≡ n)
-    some_then true place n e = (refl, some_is place n e)
-    some_then false place n e = absurd (none_some n e)
-
-pub count_within : {C : Type 0} (script : ℕ) (placed : List (PlacedCall C)) (n : ℕ)
-    → position (λ o. not (o.script == script)) placed ≡ Some n
-    → n ≤ length placed
-count_within script placed n is = (let lt = found (λ o. not (o.script == script)) placed n is in omega (arith, lt))
 
 -- ---- a place of the list
 

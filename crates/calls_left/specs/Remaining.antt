@@ -1,10 +1,11 @@
 -- What the callers of a phase have still to call.
 use Rattle.std.specs.Prelude.{◌≡◌, ◌≤◌, ◌<◌, ◌+◌, ◌-◌, ◌==◌, ℕ, List, [], ◌∷◌, Option, None, Some, ◌&&◌}
 use Rattle.std.specs.Prelude.{if◌then◌else◌, drop, take, filter, nat_lt, length, map, slice_get, slice_index_or}
+use Rattle.tty_base.specs.Sizes.{MOST_STEPS}
 use Rattle.tty_calls.specs.declared.sessions.Script.{Script}
 use Rattle.tty_calls.specs.Plain.{PlainCall, call_of}
 use Rattle.tty_calls.specs.Sessions.{script_of}
-use Rattle.one_thread.specs.Roles.{calls_in}
+use Rattle.play_base.specs.Roles.{calls_in}
 use Rattle.passed_calls.specs.declared.placed.PlacedCall.{PlacedCall}
 use Rattle.passed_calls.specs.Scripts.{AnyCall, plain, further, mixed, mixed_scripts}
 use Rattle.passed_calls.specs.Derived.{BlockPhase}
@@ -73,4 +74,4 @@ pub record IsLeftTo {C : Type 0} (p k : ℕ) (phases : List BlockPhase) (calls :
   pub from : begin_of p phases k c ≤ slice_index_or next c 0
   pub count : slice_index_or next c 0 + length left ≡ begin_of p phases (k + 1) c
   pub each : (i : ℕ) → i < length left → calls c (slice_index_or next c 0 + i) ≡ slice_get left i
-  pub few : slice_index_or next c 0 + length left ≤ 65536
+  pub few : slice_index_or next c 0 + length left ≤ MOST_STEPS

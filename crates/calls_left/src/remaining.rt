@@ -1,14 +1,14 @@
 //! What the callers of a phase have still to call.
 
 ghost use Rattle.std.specs.Prelude.{◌≡◌, ◌+◌, ◌<◌, ◌≤◌, ◌==◌, [], Some, None, IfOk, IfSome, All, MatchOption};
-ghost use Rattle.std.specs.Prelude.{drop, length, map, nat_lt, not, option_map, position, slice_get, slice_set};
-ghost use Rattle.one_thread.specs.Roles.{calls_in};
+ghost use Rattle.std.specs.Prelude.{drop, length, map, nat_lt, option_map, slice_get, slice_set};
+ghost use Rattle.play_base.specs.Roles.{calls_in};
 ghost use Rattle.tty_calls.specs.Plain.{call_of};
 ghost use Rattle.passed_calls.specs.Scripts.{count_in};
 ghost use Rattle.calls_left.specs.Remaining.{IsMarked, after_next, calls_from, calls_of_port, first_call};
 ghost use Rattle.calls_left.specs.Remaining.{any_call_of, left_at, own_from, passed_cursor, place_of, plain_from};
 
-use passed_calls::PlacedCall;
+use passed_calls::{PlacedCall, count_in};
 use std::alloc::Global;
 use std::marker::Model;
 use tty_base::NoMemory;
@@ -272,22 +272,4 @@ fn end_of<C: Copy>(script: usize, placed: &[PlacedCall<C>], first: usize) -> usi
     ensures within { result ≤ length placed.now }
 {
     first + count_in(script, &placed[first..])
-}
-
-/// How many of these calls stand in a script.
-fn count_in<C: Copy>(script: usize, placed: &[PlacedCall<C>]) -> usize
-    ensures count { result ≡ count_in script placed.now }
-    ensures within { result ≤ length placed.now }
-{
-    match first_beside(script, placed) {
-        None => placed.len(),
-        Some(count) => count,
-    }
-}
-
-/// The first of these calls that does not stand in a script.
-fn first_beside<C: Copy>(script: usize, placed: &[PlacedCall<C>]) -> Option<usize>
-    ensures { result ≡ position (λ o. not (o.script == script)) placed.now }
-{
-    placed.iter().position(|call| call.script != script)
 }

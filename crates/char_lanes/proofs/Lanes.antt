@@ -12,7 +12,7 @@ use lib.Lanes.{zip2, mask_l, top}
 use Rattle.tty_base.specs.declared.characters.Flag.{Flag}
 use Rattle.tty_base.specs.declared.characters.Flag.TheVariants.{Normal, Break, Parity, Frame, Overrun}
 use Rattle.tty_base.specs.declared.characters.Flagged.{Flagged}
-use Rattle.char_lanes.specs.Runs.{IsIn, bytes_in, number_of, number_of_flag}
+use Rattle.char_lanes.specs.Runs.{IsInBounds, bytes_in, number_of, number_of_flag}
 
 module _ {X : Type 0} where
   pub all_weaker : (P Q : X → Type 0)
@@ -93,7 +93,7 @@ pub all_in : (first last : ℕ) (without : List ℕ) (cs : List Flagged)
     → AllByRecursion (λ n. first ≤ n) (map number_of cs)
     → AllByRecursion (λ n. n ≤ last) (map number_of cs)
     → AllByRecursion (λ x. AllByRecursion (λ n. n ≢ x) (map number_of cs)) without
-    → AllByRecursion (IsIn first last without) cs
+    → AllByRecursion (IsInBounds first last without) cs
 all_in first last without [] le low high none = tt
 all_in first last without (c ∷ cs) le low high none =
     let good = good_number c.flag c.byte (omega (arith, high.0)) in
@@ -110,7 +110,7 @@ all_in first last without (c ∷ cs) le low high none =
 
 -- and their numbers are their bytes
 pub numbers_are : (first last : ℕ) (without : List ℕ) (cs : List Flagged)
-    → AllByRecursion (IsIn first last without) cs
+    → AllByRecursion (IsInBounds first last without) cs
     → map number_of cs ≡ bytes_in cs
 numbers_are first last without [] all = refl
 numbers_are first last without (c ∷ cs) all =

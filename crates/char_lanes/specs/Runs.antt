@@ -6,7 +6,7 @@ use Rattle.tty_base.specs.declared.characters.Flag.TheVariants.{Normal, Break, P
 use Rattle.tty_base.specs.declared.characters.Flagged.{Flagged}
 
 -- a good character whose byte is from the first to the last, and none of some others
-pub record IsIn (first last : ℕ) (without : List ℕ) (c : Flagged) : Type 0 where
+pub record IsInBounds (first last : ℕ) (without : List ℕ) (c : Flagged) : Type 0 where
   pub good : c.flag ≡ Normal
   pub low : first ≤ c.byte
   pub high : c.byte ≤ last

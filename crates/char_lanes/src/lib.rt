@@ -6,7 +6,7 @@ ghost use Rattle.std.specs.Prelude.{IsTrue, length, take, drop, map, vec_len, ve
 ghost use Rattle.std.specs.List.{AllByRecursion};
 ghost use Rattle.std.specs.Simd.Lanes.{mask_l};
 ghost use Rattle.char_lanes.specs.Between.{AreBetween, is_outside};
-ghost use Rattle.char_lanes.specs.Runs.{IsIn, bytes_in, number_of, number_of_flag};
+ghost use Rattle.char_lanes.specs.Runs.{IsInBounds, bytes_in, number_of, number_of_flag};
 
 use std::simd::prelude::*;
 use tty_base::{Flag, Flagged, rest_of};
@@ -29,10 +29,10 @@ pub fn push_run(
 ) -> usize
     requires { vec_len bytes.old + length chars.now ≤ vec_capacity bytes.old }
     ensures within { result ≤ length chars.now }
-    ensures run { AllByRecursion (IsIn first last without.now) (take result chars.now) }
+    ensures run { AllByRecursion (IsInBounds first last without.now) (take result chars.now) }
     ensures stops { (c : Flagged)
         → result < length chars.now
-        → ¬ IsIn first last without.now (slice_index_or chars.now result c) }
+        → ¬ IsInBounds first last without.now (slice_index_or chars.now result c) }
     ensures items { bytes.new.items ≡ bytes.old.items ++ bytes_in (take result chars.now) }
     ensures len { vec_len bytes.new ≡ vec_len bytes.old + result }
     ensures capacity { vec_capacity bytes.old ≤ vec_capacity bytes.new }
@@ -46,7 +46,7 @@ pub fn push_run(
 fn push_eights(bytes: &mut Vec<u8>, chars: &[Flagged], first: u8, last: u8, without: &[u8]) -> usize
     requires { vec_len bytes.old + length chars.now ≤ vec_capacity bytes.old }
     ensures within { result ≤ length chars.now }
-    ensures run { AllByRecursion (IsIn first last without.now) (take result chars.now) }
+    ensures run { AllByRecursion (IsInBounds first last without.now) (take result chars.now) }
     ensures items { bytes.new.items ≡ bytes.old.items ++ bytes_in (take result chars.now) }
     ensures len { vec_len bytes.new ≡ vec_len bytes.old + result }
     ensures capacity { vec_capacity bytes.old ≤ vec_capacity bytes.new }
@@ -66,7 +66,7 @@ fn push_eights(bytes: &mut Vec<u8>, chars: &[Flagged], first: u8, last: u8, with
 #[inline(always)]
 fn push_eight(bytes: &mut Vec<u8>, eight: [Flagged; 8], first: u8, last: u8, without: &[u8]) -> bool
     requires { vec_len bytes.old + 8 ≤ vec_capacity bytes.old }
-    ensures run { IsTrue result → AllByRecursion (IsIn first last without.now) eight }
+    ensures run { IsTrue result → AllByRecursion (IsInBounds first last without.now) eight }
     ensures items { IsTrue result → bytes.new.items ≡ bytes.old.items ++ bytes_in eight }
     ensures len { IsTrue result → vec_len bytes.new ≡ vec_len bytes.old + 8 }
     ensures same { result ≡ false → bytes.new ≡ bytes.old }
@@ -87,10 +87,10 @@ fn push_eight(bytes: &mut Vec<u8>, eight: [Flagged; 8], first: u8, last: u8, wit
 fn push_each(bytes: &mut Vec<u8>, chars: &[Flagged], first: u8, last: u8, without: &[u8]) -> usize
     requires { vec_len bytes.old + length chars.now ≤ vec_capacity bytes.old }
     ensures within { result ≤ length chars.now }
-    ensures run { AllByRecursion (IsIn first last without.now) (take result chars.now) }
+    ensures run { AllByRecursion (IsInBounds first last without.now) (take result chars.now) }
     ensures stops { (c : Flagged)
         → result < length chars.now
-        → ¬ IsIn first last without.now (slice_index_or chars.now result c) }
+        → ¬ IsInBounds first last without.now (slice_index_or chars.now result c) }
     ensures items { bytes.new.items ≡ bytes.old.items ++ bytes_in (take result chars.now) }
     ensures len { vec_len bytes.new ≡ vec_len bytes.old + result }
     ensures capacity { vec_capacity bytes.new ≡ vec_capacity bytes.old }
@@ -109,7 +109,7 @@ fn push_each(bytes: &mut Vec<u8>, chars: &[Flagged], first: u8, last: u8, withou
 /// Whether a character is of the run.
 #[inline(always)]
 fn is_in(c: Flagged, first: u8, last: u8, without: &[u8]) -> bool
-    ensures { IsTrue result ↔ IsIn first last without.now c }
+    ensures { IsTrue result ↔ IsInBounds first last without.now c }
 {
     match c.flag {
         Flag::Normal => first <= c.byte && c.byte <= last && is_none_of(c.byte, without),

@@ -142,10 +142,6 @@ no_drop : mode_of (codes "drop") ≡ None
 unfolding mode_of
 no_drop = refl
 
-no_idle : mode_of (codes "idle") ≡ None
-unfolding mode_of
-no_idle = refl
-
 stop_modes : (modes : Settings) (rest : Line) → Stops rest → modes_from modes rest ≡ modes
 stop_modes modes rest (inl e) = ap (modes_from modes) e
 stop_modes modes rest (inr e) =

@@ -82,18 +82,6 @@ chars_more word rest chars new c three is put left =
     ∙ ap (option_map (λ more. chars ++ more)) (sym (first_three rest three))
     ∙ left
 
--- three bytes that are no character
-pub chars_none : (word rest : List ℕ) (chars : List Flagged)
-    → 3 ≤ length rest
-    → None ≡ char_of (get_or rest 0 0) (get_or rest 1 0) (get_or rest 2 0)
-    → option_map (λ more. chars ++ more) (chars_from rest) ≡ chars_from word
-    → None ≡ chars_from word
-chars_none word rest chars three is left =
-    sym (ap (option_map (λ more. chars ++ more)) (first_three rest three
-    ∙ ap (λ o. one_more o (chars_from (drop 3 rest))) (sym is)
-    ∙ none_more (chars_from (drop 3 rest))))
-    ∙ left
-
 -- ---- counts
 
 abbrev pub then_digit : ℕ → ℕ → ℕ

@@ -8,6 +8,7 @@ use Rattle.std.proofs.lemmas.Bool.{and_parts}
 use Rattle.std.proofs.lemmas.Bool.Decides.{nat_tests}
 use Rattle.std.proofs.lemmas.List.{map-append}
 use Rattle.std.proofs.lemmas.List.Elements.{filter-append}
+use Rattle.tty_base.specs.Sizes.{MOST_PORTS}
 use Rattle.tty_base.specs.declared.lines.Overrun.{Overrun}
 use Rattle.tty_calls.specs.declared.journals.PortRun.{PortRun}
 use Rattle.tty_calls.specs.Plain.{PlainEntry}
@@ -237,7 +238,7 @@ record RunsTold (port count : ℕ) (session : PlainSession) (runs : List PortRun
       → told (journals_from port session runs ++ rest) ≡ runs_lines port entries (map run_of runs) ++ told rest
 
 runs_told : (count port : ℕ) (session : PlainSession) (runs : List PortRun)
-    → port + count ≤ 8
+    → port + count ≤ MOST_PORTS
     → AreRunsOf (map (λ p. callers_on p session) (range_with_len port count)) (map run_of runs)
     → RunsTold port count session runs
 runs_told zero port session [] few h = record { entries = []; are = tt; within = tt; told_is = λ rest. refl }
@@ -335,7 +336,7 @@ pub printed_back : (text : List ℕ) (session : PlainSession) (runs : List PortR
     → AreRunsOf (callers_by_port session) (map run_of runs)
     → Spells (text ++ (newline ++ text_after session runs)) session (map run_of runs)
 printed_back text session runs spelled h =
-    let few : session.ports ≤ 8 =
+    let few : session.ports ≤ MOST_PORTS =
     omega (arith, good_ports spelled.written spelled.good, ap (λ (s : PlainSession). s.ports) spelled.means) in
     let all = runs_told session.ports 0 session runs (omega (arith, few)) h in
     let end = codes "done" ++ newline in

@@ -3,6 +3,7 @@ use Rattle.std.proofs.Common.{◌≡◌, ◌⊎◌, inl, inr, ℕ, ◌≤◌, Bo
 use Rattle.std.proofs.Common.{Some, None, Result, Ok, Err, length, map, refl, ap, sym, subst, ◌∙◌, arith, Vec, Global}
 use Rattle.std.specs.Prelude.{filter, All, IfOk}
 use Rattle.std.proofs.lemmas.List.FromFn.{length-map-range_with_len}
+use Rattle.tty_base.specs.Sizes.{MOST_PORTS}
 use Rattle.tty_calls.specs.declared.journals.PortRun.{PortRun}
 use Rattle.tty_calls.specs.declared.sessions.Session.{Session}
 use Rattle.tty_calls.specs.Sessions.{PlainSession, session_of}
@@ -12,7 +13,7 @@ use Rattle.session_text.specs.declared.faults.BadLine.{BadLine}
 use Rattle.session_text.specs.declared.faults.TextFault.{TextFault}
 use Rattle.session_text.specs.declared.faults.TextFault.TheVariants.{Bad, NoMemory}
 use Rattle.session_text.specs.Refusals.{next_line}
-use Rattle.session_text.specs.Reading.{Gives}
+use Rattle.session_text.specs.Reading.{GivesRead}
 use Rattle.session_text.specs.Fronts.{front_in}
 use Rattle.session_text.specs.Grammar.{item_words, session_items}
 use Rattle.session_text.proofs.Fronts.{front_spelled, spelled_front, good_ports}
@@ -110,7 +111,7 @@ read_spells text check h =
     } in
     subst (λ (c : PlainCheck). Spells text c.session c.runs) same whole
 
-few_callers : (session : PlainSession) → session.ports ≤ 8 → length (callers_by_port session) ≤ most
+few_callers : (session : PlainSession) → session.ports ≤ MOST_PORTS → length (callers_by_port session) ≤ most
 few_callers session few =
     omega (arith, few, length-map-range_with_len (λ port. callers_on port session) 0 session.ports)
 
@@ -122,7 +123,7 @@ spelled_read text session runs h =
     let found = spelled_front text h.written (journals_lines h.entries runs) h.good h.words in
     let front = found.front in
     let same : front.session ≡ session = found.means ∙ sym h.means in
-    let few : session.ports ≤ 8 =
+    let few : session.ports ≤ MOST_PORTS =
     omega (arith, good_ports h.written h.good, ap (λ (s : PlainSession). s.ports) h.means) in
     let back : reads (first_journals session) (journals_lines h.entries runs) ≡ Some runs =
     journals_back session runs h.entries h.journals h.within (few_callers session few) in
@@ -172,20 +173,20 @@ abbrev Given : Type 0
 Given = Result (Session × Vec PortRun Global) TextFault
 
 pub given_spells : (text : List ℕ) (result : Given)
-    → Gives (λ check. check_of check.0 check.1.items) result (check_in text)
+    → GivesRead (λ check. check_of check.0 check.1.items) result (check_in text)
     → IfOk result (λ check. Spells text (session_of check.0) (map run_of check.1.items))
 given_spells text (Ok check) h = read_spells text (check_of check.0 check.1.items) h
 given_spells text (Err fault) h = tt
 
 pub given_short : (text : List ℕ) (result : Given)
-    → Gives (λ check. check_of check.0 check.1.items) result (check_in text)
+    → GivesRead (λ check. check_of check.0 check.1.items) result (check_in text)
     → IfOk result (λ check. All (λ run. length run.journal.items ≤ length text) check.1.items)
 given_short text (Ok check) h =
     spelled_short text (session_of check.0) check.1.items (read_spells text (check_of check.0 check.1.items) h)
 given_short text (Err fault) h = tt
 
 pub given_bad : (text : List ℕ) (result : Given)
-    → Gives (λ check. check_of check.0 check.1.items) result (check_in text)
+    → GivesRead (λ check. check_of check.0 check.1.items) result (check_in text)
     → (line : BadLine)
     → result ≡ Err (Bad line)
     → refusal text ≡ Some line
@@ -194,7 +195,7 @@ given_bad text (Err NoMemory) h line e = cc
 given_bad text (Err (Bad other)) h line e = let same : other ≡ line = cc in ap fault_of h ∙ ap Some same
 
 pub given_refused : (text : List ℕ) (result : Given)
-    → Gives (λ check. check_of check.0 check.1.items) result (check_in text)
+    → GivesRead (λ check. check_of check.0 check.1.items) result (check_in text)
     → (line : BadLine)
     → refusal text ≡ Some line
     → (result ≡ Err (Bad line)) ⊎ (result ≡ Err NoMemory)

@@ -1,5 +1,5 @@
 -- A session that a text spells with its runs keeps the limits of every session, and each of its ports has a run.
-use Rattle.std.proofs.Common.{◌≡◌, ℕ, ◌+◌, List, [], ◌∷◌, length, refl, sym, ap, subst, ◌∙◌, arith}
+use Rattle.std.proofs.Common.{◌≡◌, ℕ, List, [], ◌∷◌, length, refl, sym, subst, ◌∙◌, arith}
 use Rattle.std.proofs.lemmas.List.FromFn.{length-map-range_with_len}
 use Rattle.tty_calls.specs.Sessions.{PlainSession}
 use Rattle.tty_calls.specs.Limits.{IsWithinLimits}

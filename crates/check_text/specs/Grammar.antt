@@ -6,7 +6,7 @@ use Rattle.tty_calls.specs.Plain.{PlainEntry}
 use Rattle.tty_calls.specs.Sessions.{PlainSession}
 use Rattle.text_lines.specs.Lines.{says}
 use Rattle.session_text.specs.Refusals.{lines_in}
-use Rattle.session_text.specs.Grammar.{Written, item_words, session_items, session_meaning, IsGood}
+use Rattle.session_text.specs.Grammar.{Written, item_words, session_items, session_meaning, IsWellWritten}
 use Rattle.check_text.specs.Callers.{PlainCallers}
 use Rattle.check_text.specs.Entries.{entry_in}
 use Rattle.check_text.specs.Journals.{callers_by_port}
@@ -75,7 +75,7 @@ pub record Spells (text : List ℕ) (session : PlainSession) (runs : List PlainR
   pub written : Written
   pub entries : List (List (List (List ℕ)))
   pub words : filter says (lines_in text) ≡ map item_words (session_items written) ++ journals_lines entries runs
-  pub good : IsGood written
+  pub good : IsWellWritten written
   pub means : session ≡ session_meaning written
   pub journals : AreJournals (callers_by_port session) entries runs
   pub within : AllByRecursion IsRunWithin runs

@@ -58,14 +58,14 @@ abbrev pub AreBytes : List Flagged → Type 0
 AreBytes chars = AllByRecursion (λ c. c.byte < 256) chars
 
 -- a call of this port, of the kind that an answer is given to
-abbrev pub IsCallOf : PlainCallers → Who → ℕ → (AnswerKind → Type 0) → Type 0
-IsCallOf callers who step P = (kind : AnswerKind) × (call_of_entry callers who step ≡ Ok kind) × P kind
+abbrev pub IsAnsweredCall : PlainCallers → Who → ℕ → (AnswerKind → Type 0) → Type 0
+IsAnsweredCall callers who step P = (kind : AnswerKind) × (call_of_entry callers who step ≡ Ok kind) × P kind
 
 abbrev pub IsEventOf : PlainCallers → Who → ℕ → PlainEvent → Type 0
 IsEventOf callers who step (answered answer dropped) =
-    IsCallOf callers who step (λ kind. IsAnswerTo kind answer) × AreBytes dropped
-IsEventOf callers who step (parted taken) = IsCallOf callers who step (λ kind. Unit {0}) × (taken ≤ most)
-IsEventOf callers who step waited = IsCallOf callers who step (λ kind. Unit {0})
+    IsAnsweredCall callers who step (λ kind. IsAnswerTo kind answer) × AreBytes dropped
+IsEventOf callers who step (parted taken) = IsAnsweredCall callers who step (λ kind. Unit {0}) × (taken ≤ most)
+IsEventOf callers who step waited = IsAnsweredCall callers who step (λ kind. Unit {0})
 IsEventOf callers who step (flushed chars) = AreBytes chars
 IsEventOf callers who step ticked = Unit {0}
 IsEventOf callers who step (line_ended sent) = sent ≤ most

@@ -1,6 +1,7 @@
 //! The callers of a port: the number that each name has, and the kind of each caller's call at a step.
 
 ghost use Rattle.std.specs.Prelude.{◌≡◌, ◌≤◌, [], ◌++◌, IfOk, OnOk, length, map, replicate};
+ghost use Rattle.tty_base.specs.Sizes.{MOST_NUMBERED};
 ghost use Rattle.tty_calls.specs.Sessions.{session_of, script_of, scripts_over};
 ghost use Rattle.check_text.specs.Callers.{answer_kind as kind_of_call, callers_on, caller_named, kind_at};
 ghost use Rattle.check_text.specs.Building.{rows_after, rows_then, scripts_for};
@@ -9,6 +10,7 @@ use super::kinds::{AnswerKind, answer_kind};
 use std::alloc::Global;
 use text_lines::{is_name, name_of};
 use tty_base::NoMemory;
+use tty_base::sizes::MOST_NUMBERED;
 use tty_calls::{Calls, Names, Script, Session};
 
 /// The callers of a port. A caller's number is the place of its name.
@@ -17,7 +19,7 @@ pub(crate) struct Callers {
     names: Names,
     /// For each caller the kinds of its calls, by their steps.
     kinds: Vec<Vec<AnswerKind>>,
-    ghost few: { length names ≤ 65536 },
+    ghost few: { length names ≤ MOST_NUMBERED },
 }
 
 impl Callers {
@@ -33,7 +35,7 @@ impl Callers {
         ensures { IfOk result (λ callers. callers_of callers ≡ callers_on port (session_of session.now)) }
     {
         let names = Names::on_port(alloc, session, port)?;
-        if names.len() > 65_536 {
+        if names.len() > MOST_NUMBERED {
             return Err(NoMemory);
         }
         let kinds = kinds_on(alloc, &names, session, port)?;

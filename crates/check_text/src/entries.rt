@@ -4,7 +4,7 @@
 ghost use Rattle.std.specs.Prelude.{◌≡◌, List, Ok, Err, MatchResult};
 ghost use Rattle.tty_base.specs.declared.characters.Flagged.{Flagged};
 ghost use Rattle.tty_calls.specs.Plain.{answer_of, flushed, hung_up, parted, waited};
-ghost use Rattle.tty_calls.specs.Plain.{line_ended, answered, PlainAnswer, PlainEvent};
+ghost use Rattle.tty_calls.specs.Plain.{line_ended, answered, PlainAnswer};
 ghost use Rattle.text_lines.specs.Lines.{words_of};
 ghost use Rattle.check_text.specs.Fields.{in_front, at_end};
 ghost use Rattle.check_text.specs.Entries.{ends_in_number, maker_of as maker_named, who_of as who_named};

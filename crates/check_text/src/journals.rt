@@ -4,7 +4,7 @@ ghost use Rattle.std.specs.Prelude.{◌≡◌, ◌-◌, [], ◌∷◌, ◌++◌,
 ghost use Rattle.std.specs.List.{range_with_len};
 ghost use Rattle.tty_calls.specs.Sessions.{session_of};
 ghost use Rattle.text_lines.specs.Lines.{words_of};
-ghost use Rattle.session_text.specs.Reading.{Gives};
+ghost use Rattle.session_text.specs.Reading.{GivesRead};
 ghost use Rattle.check_text.specs.Callers.{callers_on};
 ghost use Rattle.check_text.specs.Journals.{first_journals, run_due as due_run, entries_due as due_entries};
 ghost use Rattle.check_text.specs.Journals.{overruns_due as due_overruns, is_over as is_last, entry_by};
@@ -79,7 +79,7 @@ impl Journals {
         number: u32,
         line: &[u8],
     ) -> Result<(), TextFault>
-        ensures { Gives (λ _. journals_of self.new) result
+        ensures { GivesRead (λ _. journals_of self.new) result
             (journals_after_line (journals_of self.old) number (words_of line.now)) }
     {
         match split_word(line) {
@@ -206,7 +206,7 @@ impl Journals {
 
     /// Takes the runs out, where the text ends before the line with this number.
     pub(crate) fn finish(&mut self, number: u32) -> Result<Vec<PortRun>, TextFault>
-        ensures { Gives (λ runs. map run_of runs.items) result (runs_at_end (journals_of self.old) number) }
+        ensures { GivesRead (λ runs. map run_of runs.items) result (runs_at_end (journals_of self.old) number) }
     {
         if !is_over(self.due) {
             return Err(TextFault::Bad(BadLine {

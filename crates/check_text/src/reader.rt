@@ -2,7 +2,7 @@
 
 ghost use Rattle.std.specs.Prelude.{◌≡◌, ◌≤◌, ◌⊎◌, All, Some, IfOk, length, map};
 ghost use Rattle.tty_calls.specs.Sessions.{session_of};
-ghost use Rattle.session_text.specs.Reading.{Gives};
+ghost use Rattle.session_text.specs.Reading.{GivesRead};
 ghost use Rattle.session_text.specs.Refusals.{lines_in};
 ghost use Rattle.check_text.specs.Grammar.{Spells};
 ghost use Rattle.check_text.specs.Journals.{first_journals, runs_from};
@@ -32,7 +32,7 @@ pub fn parse_check(alloc: Global, text: &[u8]) -> Result<(Session, Vec<PortRun>)
 }
 
 fn read_check(alloc: Global, text: &[u8]) -> Result<(Session, Vec<PortRun>), TextFault>
-    ensures { Gives (λ check. check_of check.0 check.1.items) result (check_in text.now) }
+    ensures { GivesRead (λ check. check_of check.0 check.1.items) result (check_in text.now) }
 {
     let (session, number, rest) = parse_front(alloc, text)?;
     let runs = read_journals(alloc, &session, number, rest)?;
@@ -46,7 +46,7 @@ fn read_journals(
     first: u32,
     text: &[u8],
 ) -> Result<Vec<PortRun>, TextFault>
-    ensures { Gives (λ runs. map run_of runs.items) result
+    ensures { GivesRead (λ runs. map run_of runs.items) result
         (runs_from (first_journals (session_of session.now)) first (lines_in text.now)) }
 {
     let mut journals = Journals::new(alloc, session)?;
@@ -60,7 +60,7 @@ fn read_lines(
     first: u32,
     text: &[u8],
 ) -> Result<Vec<PortRun>, TextFault>
-    ensures { Gives (λ runs. map run_of runs.items) result
+    ensures { GivesRead (λ runs. map run_of runs.items) result
         (runs_from (journals_of journals.old) first (lines_in text.now)) }
 {
     let mut rest = text;

@@ -71,9 +71,6 @@ set_past [] i x le = refl
 set_past (y ∷ ys) zero x le = absurd (omega (arith, le))
 set_past (y ∷ ys) (suc i) x le = ap (λ (zs : List Bool). y ∷ zs) (set_past ys i x (omega (arith, le)))
 
-pub own_past : (begun : List Bool) (c : ℕ) (event : PlainEvent) → length begun ≤ c → begun ≡ begun_own begun c event
-own_past begun c event le = sym (set_past begun c (has_begun event (slice_index_or begun c false)) le)
-
 after_entry : (begun : List Bool) (who : Who) (event : PlainEvent) (c : ℕ)
     → c < length begun
     → slice_index_or (begun_by begun who event) c false

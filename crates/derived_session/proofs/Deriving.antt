@@ -16,8 +16,9 @@ use Rattle.passed_calls.specs.Derived.{Passed, blocks_of, by_caller, calls_at, c
 use Rattle.passed_calls.specs.Derived.{passed_script, passed_scripts, passed_phases_after, passed_phases}
 use Rattle.passed_calls.specs.Scripts.{CallerScript, block_of, numbered_call}
 use Rattle.derived_session.specs.declared.passed.PassedDown.{PassedDown}
-use Rattle.derived_session.specs.declared.slots.Slot.{Slot}
-use Rattle.derived_session.specs.Steps.{Step, StepsPhase, block_phase_of, passings_of, scripts_in, step_at, own_call}
+use Rattle.derived_session.specs.declared.slots.StepSlot.{StepSlot}
+use Rattle.derived_session.specs.Steps.{CallerStep, StepsPhase, block_phase_of, passings_of, scripts_in, step_at}
+use Rattle.derived_session.specs.Steps.{own_call}
 use Rattle.derived_session.specs.Slots.{no_slot, slot_after, slot_at, calls_from, hangup_list}
 use Rattle.derived_session.specs.Making.{PortState, caller_of, next_of, script_made, script_after}
 use Rattle.derived_session.specs.Making.{no_port, port_at, ports_then, ports_after, scripts_made}
@@ -29,7 +30,7 @@ use Rattle.derived_session.proofs.Stands.{own_blocks, own_scripts, block_here, b
 use Rattle.derived_session.proofs.Stands.{call_of_script, names_more, steps_more}
 
 abbrev Script : Type 0
-Script = CallerScript Step
+Script = CallerScript CallerStep
 
 caller_is : (t : PortState) (name : List ℕ) → caller_of t name ≡ place_of name t.names
 caller_is t name =
@@ -104,7 +105,7 @@ module _ (all : List Script) (passed : List (List PassedDown))
       calls_passed_are (step_at all p) c (by_caller c (passings p)) (slice_index_or t.slots c []) n s.calls
       (λ step.
       ap
-      (λ (slot : Slot). (if slot.own then own_call (step_at all p c step) else []) ++ hangup_list slot.hangup)
+      (λ (slot : StepSlot). (if slot.own then own_call (step_at all p c step) else []) ++ hangup_list slot.hangup)
       (h.slots c step)
       ∙ slot_calls_are (step_at all p) c step no_slot (slice_index_or passed p []) (single p c step))
       (λ i lt.

@@ -7,3 +7,5 @@ mod Deriving
 mod Making
 mod Beginning
 pub mod Stepping
+pub mod Listed
+pub mod ByCalls

@@ -15,7 +15,7 @@ use Rattle.passed_calls.specs.declared.placed.PlacedCall.{PlacedCall}
 use Rattle.passed_calls.specs.Scripts.{AnyCall, CallerScript, count_in, mixed, mixed_scripts}
 use Rattle.derived_session.specs.declared.passed.PassedDown.{PassedDown}
 use Rattle.derived_session.specs.declared.passed.FurtherBlock.{FurtherBlock}
-use Rattle.derived_session.specs.Steps.{Step, StepsPhase, steps_in, steps_with, further_steps, phase_steps}
+use Rattle.derived_session.specs.Steps.{CallerStep, StepsPhase, steps_in, steps_with, further_steps, phase_steps}
 use Rattle.derived_session.specs.Steps.{phases_steps}
 use Rattle.derived_session.specs.Steps.{block_phase_of, derived_of, passings_of, scripts_in}
 use Rattle.derived_session.specs.Making.{PortState, IsFirstPort, AreFirstPorts, port_at, script_made}
@@ -31,18 +31,18 @@ next_item xs i x h at =
 -- ---- scripts
 
 -- the scripts so far, the ports, and the scripts that are left
-pub record Making (first : List PlainScript) (from : List PortState) (all : List (CallerScript Step))
-    (made : List PlainScript) (ports : List PortState) (left : List (CallerScript Step)) : Type 0 where
+pub record Making (first : List PlainScript) (from : List PortState) (all : List (CallerScript CallerStep))
+    (made : List PlainScript) (ports : List PortState) (left : List (CallerScript CallerStep)) : Type 0 where
   pub scripts : made ++ scripts_made ports left ≡ first ++ scripts_made from all
   pub after : ports_after ports left ≡ ports_after from all
   pub many : length ports ≡ length from
 
-module _ (first : List PlainScript) (from : List PortState) (all : List (CallerScript Step)) where
+module _ (first : List PlainScript) (from : List PortState) (all : List (CallerScript CallerStep)) where
   pub making_first : Making first from all first from all
   making_first = record { scripts = refl; after = refl; many = refl }
 
-  making_one : (made new : List PlainScript) (ports next : List PortState) (s : CallerScript Step)
-      (left : List (CallerScript Step))
+  making_one : (made new : List PlainScript) (ports next : List PortState) (s : CallerScript CallerStep)
+      (left : List (CallerScript CallerStep))
       → new ≡ made ++ script_made (port_at ports s.port) s ∷ []
       → next ≡ ports_then ports s
       → Making first from all made ports (s ∷ left)
@@ -60,14 +60,14 @@ module _ (first : List PlainScript) (from : List PortState) (all : List (CallerS
         ∙ (length-set ports s.port (script_after (port_at ports s.port) s) ∙ h.many);
   }
 
-  pub making_done : (made : List PlainScript) (ports : List PortState) (left : List (CallerScript Step))
+  pub making_done : (made : List PlainScript) (ports : List PortState) (left : List (CallerScript CallerStep))
       → left ≡ []
       → Making first from all made ports left
       → (made ≡ first ++ scripts_made from all) × (ports ≡ ports_after from all)
   making_done made ports left none h = (
     sym (append-nil made)
-        ∙ (ap (λ (ss : List (CallerScript Step)). made ++ scripts_made ports ss) (sym none) ∙ h.scripts),
-    ap (λ (ss : List (CallerScript Step)). ports_after ports ss) (sym none) ∙ h.after,
+        ∙ (ap (λ (ss : List (CallerScript CallerStep)). made ++ scripts_made ports ss) (sym none) ∙ h.scripts),
+    ap (λ (ss : List (CallerScript CallerStep)). ports_after ports ss) (sym none) ∙ h.after,
   )
 
   -- one of a block of which the port sees no call
@@ -131,21 +131,21 @@ module _ (first : List PlainScript) (from : List PortState) (all : List (CallerS
       (ap (map script_of) put
       ∙ (map-append script_of items (s ∷ [])
       ∙ ap (λ (y : PlainScript). map script_of items ++ y ∷ []) is)) are
-      (subst (λ (ss : List (CallerScript Step)). Making first from all (map script_of items) ports ss) left h)
+      (subst (λ (ss : List (CallerScript CallerStep)). Making first from all (map script_of items) ports ss) left h)
 
 -- two lists of scripts, one behind the other
-pub scripts_both : (ports : List PortState) (xs ys : List (CallerScript Step))
+pub scripts_both : (ports : List PortState) (xs ys : List (CallerScript CallerStep))
     → scripts_made ports (xs ++ ys) ≡ scripts_made ports xs ++ scripts_made (ports_after ports xs) ys
 scripts_both ports [] ys = refl
 scripts_both ports (x ∷ xs) ys =
     ap (λ (ms : List PlainScript). script_made (port_at ports x.port) x ∷ ms) (scripts_both (ports_then ports x) xs ys)
 
-pub after_both : (ports : List PortState) (xs ys : List (CallerScript Step))
+pub after_both : (ports : List PortState) (xs ys : List (CallerScript CallerStep))
     → ports_after ports (xs ++ ys) ≡ ports_after (ports_after ports xs) ys
 after_both ports [] ys = refl
 after_both ports (x ∷ xs) ys = after_both (ports_then ports x) xs ys
 
-pub after_many : (ports : List PortState) (ss : List (CallerScript Step))
+pub after_many : (ports : List PortState) (ss : List (CallerScript CallerStep))
     → length (ports_after ports ss) ≡ length ports
 after_many ports [] = refl
 after_many ports (s ∷ ss) =
@@ -283,7 +283,7 @@ blocks_known n [] k h = All-nil (λ (b : FurtherBlock). b.port < n)
 blocks_known n (x ∷ xs) zero h = All-head (λ (v : Blocks). AreOnPorts n v.items) x xs h
 blocks_known n (x ∷ xs) (suc k) h = blocks_known n xs k (All-tail (λ (v : Blocks). AreOnPorts n v.items) x xs h)
 
-abbrev IsOn : ℕ → CallerScript Step → Type 0
+abbrev IsOn : ℕ → CallerScript CallerStep → Type 0
 IsOn n s = s.port < n
 
 scripts_good : {C : Type 0} (n k : ℕ) (ss : List PlainScript) (placed : List (PlacedCall C))
@@ -324,7 +324,8 @@ steps_good {C} n k (phase ∷ phases) placed others h on =
     (All-tail (λ (x : PlainPhase). All (λ (s : PlainScript). s.port < n) x.callers) phase phases h) on)
 
 -- scripts, and behind them others
-pub both_made : (from mid : List PortState) (xs ys : List (CallerScript Step)) (none first second last : List Script)
+pub both_made : (from mid : List PortState) (xs ys : List (CallerScript CallerStep))
+    (none first second last : List Script)
     → none ≡ []
     → map script_of first ≡ map script_of none ++ scripts_made from xs
     → second ≡ first

@@ -9,14 +9,14 @@ use Rattle.passed_calls.specs.Derived.{Passing, by_caller, calls_at, calls_for}
 use Rattle.derived_session.specs.declared.passed.Down.{Down}
 use Rattle.derived_session.specs.declared.passed.Down.TheVariants as down
 use Rattle.derived_session.specs.declared.passed.PassedDown.{PassedDown}
-use Rattle.derived_session.specs.declared.slots.Slot.{Slot}
-use Rattle.derived_session.specs.Steps.{Step, own_call, calls_down, passing_of}
+use Rattle.derived_session.specs.declared.slots.StepSlot.{StepSlot}
+use Rattle.derived_session.specs.Steps.{CallerStep, own_call, calls_down, passing_of}
 use Rattle.derived_session.specs.Slots.{with_down, slot_after, slot_in, own_list, hangup_list, slot_calls}
 use Rattle.derived_session.specs.Slots.{calls_from}
 
 -- ---- one passing more, where one call is passed at most
 
-abbrev at_slot : Slot → Option Step → List PlainCall
+abbrev at_slot : StepSlot → Option CallerStep → List PlainCall
 at_slot slot made = (if slot.own then own_call made else []) ++ hangup_list slot.hangup
 
 own_more : (own : Bool) (hangup : Option ℕ) (calls : List PlainCall)
@@ -40,7 +40,7 @@ hangup_more first (Some g) h few = absurd (omega (
   length-append first (hangs_up g ∷ []),
 ))
 
-down_more : (slot : Slot) (made : Option Step) (d : Down)
+down_more : (slot : StepSlot) (made : Option CallerStep) (d : Down)
     → length (at_slot slot made ++ calls_down made d) ≤ 1
     → at_slot (with_down slot d) made ≡ at_slot slot made ++ calls_down made d
 down_more slot made down.Call few = own_more slot.own slot.hangup (own_call made) few
@@ -49,7 +49,7 @@ down_more slot made (down.Hangup h) few =
 
 -- ---- all passings of a step
 
-module _ (made : (c step : ℕ) → Option Step) (c step : ℕ) where
+module _ (made : (c step : ℕ) → Option CallerStep) (c step : ℕ) where
   abbrev at_step : List PassedDown → List PlainCall
   at_step ds = calls_at (by_caller c (map (passing_of made) ds)) step
 
@@ -74,10 +74,10 @@ module _ (made : (c step : ℕ) → Option Step) (c step : ℕ) where
   at_step_more : (d : PassedDown) (ds : List PassedDown) → at_step (d ∷ ds) ≡ here d ++ at_step ds
   at_step_more d ds = by_tests d ds (d.caller == c) (d.step == step) refl refl
 
-  abbrev then_slot : Slot → PassedDown → Slot
+  abbrev then_slot : StepSlot → PassedDown → StepSlot
   then_slot slot d = if d.caller == c && d.step == step then with_down slot d.down else slot
 
-  slot_more : (slot : Slot) (d : PassedDown) (rest : List PlainCall) (b : Bool)
+  slot_more : (slot : StepSlot) (d : PassedDown) (rest : List PlainCall) (b : Bool)
       → length (at_slot slot (made c step) ++ ((if b then calls_down (made c step) d.down else []) ++ rest)) ≤ 1
       → at_slot (if b then with_down slot d.down else slot) (made c step)
       ≡ at_slot slot (made c step) ++ (if b then calls_down (made c step) d.down else [])
@@ -92,7 +92,7 @@ module _ (made : (c step : ℕ) → Option Step) (c step : ℕ) where
         length-append (at_slot slot (made c step)) calls,
       ))
 
-  pub slot_calls_are : (slot : Slot) (ds : List PassedDown)
+  pub slot_calls_are : (slot : StepSlot) (ds : List PassedDown)
       → length (at_slot slot (made c step) ++ at_step ds) ≤ 1
       → at_slot (slot_after slot ds c step) (made c step) ≡ at_slot slot (made c step) ++ at_step ds
   slot_calls_are slot [] few = sym (append-nil (at_slot slot (made c step)))
@@ -112,12 +112,12 @@ module _ (made : (c step : ℕ) → Option Step) (c step : ℕ) where
 
 -- ---- the calls of a script
 
-own_is : (made : Step) → own_call (Some made) ≡ own_list made
+own_is : (made : CallerStep) → own_call (Some made) ≡ own_list made
 own_is None = refl
 own_is (Some call) = refl
 
-pub calls_passed_are : (made : (c step : ℕ) → Option Step) (c : ℕ) (mine : List Passing) (slots : List Slot)
-    (n : ℕ) (steps : List Step)
+pub calls_passed_are : (made : (c step : ℕ) → Option CallerStep) (c : ℕ) (mine : List Passing) (slots : List StepSlot)
+    (n : ℕ) (steps : List CallerStep)
     → ((step : ℕ) → at_slot (slot_in slots step) (made c step) ≡ calls_at mine step)
     → ((i : ℕ) → i < length steps → made c (n + i) ≡ slice_get steps i)
     → calls_from slots n steps ≡ calls_for mine n (length steps)

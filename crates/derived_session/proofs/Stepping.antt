@@ -5,7 +5,7 @@ use Rattle.std.specs.Prelude.{option_map, slice_get}
 use Rattle.std.specs.Str.{bytes_eq}
 use Rattle.std.proofs.lemmas.List.{length-map, map-append}
 use Rattle.passed_calls.specs.Scripts.{AnyCall, CallerScript, block_of, calls_named, numbered_call}
-use Rattle.derived_session.specs.Steps.{Step, step_of, steps_in}
+use Rattle.derived_session.specs.Steps.{CallerStep, step_of, steps_in}
 
 abbrev Mixed : Type 0 → Type 0
 Mixed C = CallerScript (AnyCall C)
@@ -18,17 +18,17 @@ pub blocks_kept : {C : Type 0} (ss : List (CallerScript (AnyCall C))) → map bl
 blocks_kept [] = refl
 blocks_kept (s ∷ ss) = λ i. block_kept s i ∷ blocks_kept ss i
 
-one_own : {C : Type 0} (b : Bool) (s : Mixed C) (ss : List (CallerScript Step)) (os : List (Mixed C))
+one_own : {C : Type 0} (b : Bool) (s : Mixed C) (ss : List (CallerScript CallerStep)) (os : List (Mixed C))
     → ss ≡ map steps_in os
     → cond b (steps_in s ∷ ss) ss ≡ map steps_in (cond b (s ∷ os) os)
-one_own true s ss os e = ap (λ (xs : List (CallerScript Step)). steps_in s ∷ xs) e
+one_own true s ss os e = ap (λ (xs : List (CallerScript CallerStep)). steps_in s ∷ xs) e
 one_own false s ss os e = e
 
 pub own_kept : {C : Type 0} (p : ℕ) (ss : List (CallerScript (AnyCall C)))
     → filter (λ s. s.port == p) (map steps_in ss) ≡ map steps_in (filter (λ s. s.port == p) ss)
 own_kept p [] = refl
 own_kept {C} p (s ∷ ss) =
-    one_own (s.port == p) s (filter (λ (x : CallerScript Step). x.port == p) (map steps_in ss))
+    one_own (s.port == p) s (filter (λ (x : CallerScript CallerStep). x.port == p) (map steps_in ss))
     (filter (λ (x : Mixed C). x.port == p) ss) (own_kept p ss)
 
 get_map : {C : Type 0} (cs : List (AnyCall C)) (n : ℕ)
@@ -54,5 +54,5 @@ named_kept (Some name) (s ∷ ss) =
 pub numbered_kept : {C : Type 0} (names : List (List ℕ)) (ss : List (CallerScript (AnyCall C))) (c n : ℕ)
     → numbered_call names (map steps_in ss) c n ≡ option_map step_of (numbered_call names ss c n)
 numbered_kept names ss c n =
-    ap (λ (cs : List Step). slice_get cs n) (named_kept (slice_get names c) ss)
+    ap (λ (cs : List CallerStep). slice_get cs n) (named_kept (slice_get names c) ss)
     ∙ get_map (calls_named (slice_get names c) ss) n

@@ -10,10 +10,10 @@ use Rattle.tty_calls.specs.Plain.{PlainCall}
 use Rattle.passed_calls.specs.declared.placed.PlacedCall.{PlacedCall}
 use Rattle.passed_calls.specs.Scripts.{AnyCall, plain, further, mixed}
 use Rattle.derived_session.specs.declared.calls.Cursor.{Cursor}
-use Rattle.derived_session.specs.declared.slots.Slot.{Slot}
-use Rattle.derived_session.specs.Steps.{Step, step_of}
+use Rattle.derived_session.specs.declared.slots.StepSlot.{StepSlot}
+use Rattle.derived_session.specs.Steps.{CallerStep, step_of}
 use Rattle.derived_session.specs.Slots.{calls_from, hangup_list, slot_calls, slot_in}
-use Rattle.derived_session.specs.Walks.{StepsOn, next_further, steps_left}
+use Rattle.derived_session.specs.Walks.{WalksOn, next_further, steps_left}
 
 is_lt : (a b : ℕ) → a < b → nat_lt a b ≡ true
 is_lt a b lt = grind (arith, nat_tests)
@@ -79,7 +79,7 @@ plain_first n c cs (o ∷ os) before =
 
 -- ---- what is passed down where the port sees no call
 
-only_hangup : (slot : Slot) → slot_calls slot None ≡ hangup_list slot.hangup
+only_hangup : (slot : StepSlot) → slot_calls slot None ≡ hangup_list slot.hangup
 only_hangup slot = by_own slot.own
   where
     by_own : (b : Bool) → (if b then [] else []) ++ hangup_list slot.hangup ≡ hangup_list slot.hangup
@@ -218,7 +218,7 @@ module _ {C : Type 0} (calls : List PlainCall) (placed : List (PlacedCall C)) (a
       first_of (y ∷ ys) (suc i) x rest e = first_of ys i x rest e
 
   -- a step more, at which this is passed down
-  step_more : (slots : List Slot) (old new : List PlainCall) (made : Step) (next : Cursor)
+  step_more : (slots : List StepSlot) (old new : List PlainCall) (made : CallerStep) (next : Cursor)
       → steps_left calls placed at ≡ made ∷ steps_left calls placed next
       → next.step ≡ at.step + 1
       → new ≡ old ++ slot_calls (slot_in slots at.step) made
@@ -231,18 +231,18 @@ module _ {C : Type 0} (calls : List PlainCall) (placed : List (PlacedCall C)) (a
         ap (λ (n : ℕ). new ++ calls_from slots n rest) step
             ∙ (ap (λ (cs : List PlainCall). cs ++ calls_from slots (at.step + 1) rest) put
             ∙ (append_assoc old here (calls_from slots (at.step + 1) rest)
-            ∙ ap (λ (ss : List Step). old ++ calls_from slots at.step ss) (sym left))),
-        omega (arith, step, ap (λ (ss : List Step). length ss) left),
+            ∙ ap (λ (ss : List CallerStep). old ++ calls_from slots at.step ss) (sym left))),
+        omega (arith, step, ap (λ (ss : List CallerStep). length ss) left),
       )
 
-  pub further_on : (slots : List Slot) (old new : List PlainCall) (place : ℕ) (next : Cursor)
+  pub further_on : (slots : List StepSlot) (old new : List PlainCall) (place : ℕ) (next : Cursor)
       → next_further count (slice_get placed at.own) at ≡ Some place
       → new ≡ old ++ hangup_list (slot_in slots at.step).hangup
       → next.step ≡ at.step + 1
       → next.taken ≡ at.taken
       → next.own ≡ at.own + 1
       → next.place ≡ place + 1
-      → StepsOn slots calls placed at old next new
+      → WalksOn slots calls placed at old next new
   further_on slots old new place next is put step taken own at_place =
       let h = is_further place is in
       let on = step_more slots old new None next (further_left place next h taken own at_place) step
@@ -253,7 +253,7 @@ module _ {C : Type 0} (calls : List PlainCall) (placed : List (PlacedCall C)) (a
         less = omega (arith, within_own place h, taken, own);
       }
 
-  pub plain_on : (slots : List Slot) (old new : List PlainCall) (c : PlainCall) (next : Cursor)
+  pub plain_on : (slots : List StepSlot) (old new : List PlainCall) (c : PlainCall) (next : Cursor)
       → IsTrue (nat_lt at.taken count || nat_lt at.own (length placed))
       → next_further count (slice_get placed at.own) at ≡ None
       → slice_get calls at.taken ≡ Some c
@@ -262,7 +262,7 @@ module _ {C : Type 0} (calls : List PlainCall) (placed : List (PlacedCall C)) (a
       → next.taken ≡ at.taken + 1
       → next.own ≡ at.own
       → next.place ≡ at.place + 1
-      → StepsOn slots calls placed at old next new
+      → WalksOn slots calls placed at old next new
   plain_on slots old new c next some is stands put step taken own at_place =
       let on = step_more slots old new (Some c) next (plain_left c next is stands taken own at_place) step put in
       record {
@@ -272,7 +272,7 @@ module _ {C : Type 0} (calls : List PlainCall) (placed : List (PlacedCall C)) (a
       }
 
 -- all steps are walked
-pub walked_all : {C : Type 0} (slots : List Slot) (calls made all : List PlainCall) (placed : List (PlacedCall C))
+pub walked_all : {C : Type 0} (slots : List StepSlot) (calls made all : List PlainCall) (placed : List (PlacedCall C))
     (at : Cursor) (end : ℕ)
     → length calls ≤ at.taken
     → length placed ≤ at.own
@@ -285,13 +285,13 @@ walked_all {C} slots calls made all placed at end taken own are steps =
     (drop_all at.taken calls taken)
     ∙ ap (λ (os : List (PlacedCall C)). map step_of (mixed {C = C} at.place [] os)) (drop_all at.own placed own) in (
       sym (append-nil made)
-          ∙ (ap (λ (ss : List Step). made ++ calls_from slots at.step ss) (sym none) ∙ are),
-      omega (arith, steps, ap (λ (ss : List Step). length ss) none),
+          ∙ (ap (λ (ss : List CallerStep). made ++ calls_from slots at.step ss) (sym none) ∙ are),
+      omega (arith, steps, ap (λ (ss : List CallerStep). length ss) none),
     )
 
 -- ---- what is passed down at it
 
-pub call_added : (slot : Slot) (old some new : List PlainCall) (c : PlainCall)
+pub call_added : (slot : StepSlot) (old some new : List PlainCall) (c : PlainCall)
     → some ≡ old ++ (if slot.own then c ∷ [] else [])
     → new ≡ some ++ hangup_list slot.hangup
     → new ≡ old ++ slot_calls slot (Some c)
@@ -302,7 +302,7 @@ call_added slot old some new c own hangup =
 
 -- ---- steps at which the port sees no call
 
-pub hangups_more : (slots : List Slot) (old new all : List PlainCall) (step next first count i : ℕ)
+pub hangups_more : (slots : List StepSlot) (old new all : List PlainCall) (step next first count i : ℕ)
     → i < count
     → new ≡ old ++ hangup_list (slot_in slots step).hangup
     → next ≡ step + 1
@@ -312,7 +312,7 @@ pub hangups_more : (slots : List Slot) (old new all : List PlainCall) (step next
     × (next + (count - (i + 1)) ≡ first + count)
 hangups_more slots old new all step next first count i lt put is are steps =
     let more : count - i ≡ suc (count - (i + 1)) = omega (arith, lt) in
-    let rest : List Step = replicate (count - (i + 1)) None in (
+    let rest : List CallerStep = replicate (count - (i + 1)) None in (
       ap (λ (n : ℕ). new ++ calls_from slots n rest) is
           ∙ (ap (λ (cs : List PlainCall). cs ++ calls_from slots (step + 1) rest)
           (put ∙ ap (λ (cs : List PlainCall). old ++ cs) (sym (only_hangup (slot_in slots step))))
@@ -321,7 +321,7 @@ hangups_more slots old new all step next first count i lt put is are steps =
       omega (arith, lt, is, steps),
     )
 
-pub hangups_done : (slots : List Slot) (made all : List PlainCall) (step first count i : ℕ)
+pub hangups_done : (slots : List StepSlot) (made all : List PlainCall) (step first count i : ℕ)
     → count ≤ i
     → made ++ calls_from slots step (replicate (count - i) None) ≡ all
     → step + (count - i) ≡ first + count

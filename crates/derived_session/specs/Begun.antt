@@ -1,5 +1,5 @@
 -- Calls that a port has begun and not answered.
-use Rattle.std.specs.Prelude.{ℕ, Bool, true, false, List, [], ◌∷◌, flat_map, if◌then◌else◌, length}
+use Rattle.std.specs.Prelude.{ℕ, ◌+◌, Bool, true, false, List, [], ◌∷◌, flat_map, if◌then◌else◌, length}
 use Rattle.std.specs.Prelude.{slice_index_or, slice_set}
 use Rattle.std.specs.List.{range_with_len}
 use Rattle.tty_calls.specs.declared.journals.Who.{Who}
@@ -17,6 +17,15 @@ begun_down journal next = flat_map
     then record { caller = c; step = slice_index_or next c 0; down = down.Call } ∷ []
     else [])
     (range_with_len 0 (length next))
+
+-- one call more of a caller was answered
+abbrev pub one_more : (next : List ℕ) → (caller : ℕ) → List ℕ
+one_more next c = slice_set next c (slice_index_or next c 0 + 1)
+
+-- what is known behind each of these events, which are walked one after the other
+abbrev pub after_all : {W E : Type 0} → (after : W → E → W) → W → List E → W
+after_all after w [] = w
+after_all after w (e ∷ es) = after_all after (after w e) es
 
 -- ---- how they are found: for private functions alone
 

@@ -3,15 +3,15 @@ use Rattle.std.specs.Prelude.{◌≡◌, ◌<◌, ℕ, ◌+◌, List, [], ◌∷
 use Rattle.std.specs.Prelude.{slice_index_or, slice_set, unwrap_or}
 use Rattle.tty_calls.specs.Sessions.{PlainScript, PlainPhase, number_in, with_name}
 use Rattle.passed_calls.specs.Scripts.{CallerScript}
-use Rattle.derived_session.specs.declared.slots.Slot.{Slot}
+use Rattle.derived_session.specs.declared.slots.StepSlot.{StepSlot}
 use Rattle.derived_session.specs.declared.passed.PassedDown.{PassedDown}
 use Rattle.derived_session.specs.Slots.{calls_from, no_slot, slot_after, slot_at}
-use Rattle.derived_session.specs.Steps.{Step, StepsPhase}
+use Rattle.derived_session.specs.Steps.{CallerStep, StepsPhase}
 
 -- a port: the names of its callers so far, what each passed down, and the next step of each
 pub record PortState : Type 0 where
   pub names : List (List ℕ)
-  pub slots : List (List Slot)
+  pub slots : List (List StepSlot)
   pub next : List ℕ
 
 -- the next steps, with one for a caller whose name is new
@@ -26,7 +26,7 @@ abbrev pub next_of : PortState → List ℕ → List ℕ
 next_of port name = reached (with_name port.names name) port.next
 
 -- a script is made, and the port behind it
-abbrev pub script_made : PortState → CallerScript Step → PlainScript
+abbrev pub script_made : PortState → CallerScript CallerStep → PlainScript
 script_made port s = record {
   port = s.port;
   name = s.name;
@@ -34,7 +34,7 @@ script_made port s = record {
       (slice_index_or (next_of port s.name) (caller_of port s.name) 0) s.calls;
 }
 
-abbrev pub script_after : PortState → CallerScript Step → PortState
+abbrev pub script_after : PortState → CallerScript CallerStep → PortState
 script_after port s = record {
   names = with_name port.names s.name;
   slots = port.slots;
@@ -50,14 +50,14 @@ no_port = record { names = []; slots = []; next = [] }
 abbrev pub port_at : List PortState → (p : ℕ) → PortState
 port_at ports p = slice_index_or ports p no_port
 
-abbrev pub ports_then : List PortState → CallerScript Step → List PortState
+abbrev pub ports_then : List PortState → CallerScript CallerStep → List PortState
 ports_then ports s = slice_set ports s.port (script_after (port_at ports s.port) s)
 
-abbrev pub ports_after : List PortState → List (CallerScript Step) → List PortState
+abbrev pub ports_after : List PortState → List (CallerScript CallerStep) → List PortState
 ports_after ports [] = ports
 ports_after ports (s ∷ ss) = ports_after (ports_then ports s) ss
 
-abbrev pub scripts_made : List PortState → List (CallerScript Step) → List PlainScript
+abbrev pub scripts_made : List PortState → List (CallerScript CallerStep) → List PlainScript
 scripts_made ports [] = []
 scripts_made ports (s ∷ ss) = script_made (port_at ports s.port) s ∷ scripts_made (ports_then ports s) ss
 

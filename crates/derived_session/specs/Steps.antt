@@ -17,30 +17,30 @@ use Rattle.derived_session.specs.declared.passed.FurtherBlock.{FurtherBlock}
 -- ---- steps
 
 -- a step of a caller: the call that it makes there, where that is for the port
-abbrev pub Step : Type 0
-Step = Option PlainCall
+abbrev pub CallerStep : Type 0
+CallerStep = Option PlainCall
 
-abbrev pub step_of : {C : Type 0} → AnyCall C → Step
+abbrev pub step_of : {C : Type 0} → AnyCall C → CallerStep
 step_of (plain call) = Some call
 step_of (further call) = None
 
-abbrev pub steps_in : {C : Type 0} → CallerScript (AnyCall C) → CallerScript Step
+abbrev pub steps_in : {C : Type 0} → CallerScript (AnyCall C) → CallerScript CallerStep
 steps_in script = record { port = script.port; name = script.name; calls = map step_of script.calls }
 
 -- a script, with the calls that are placed in it
-abbrev pub steps_with : {C : Type 0} → PlainScript → List (PlacedCall C) → CallerScript Step
+abbrev pub steps_with : {C : Type 0} → PlainScript → List (PlacedCall C) → CallerScript CallerStep
 steps_with script placed =
     steps_in (record { port = script.port; name = script.name; calls = mixed 0 script.calls placed })
 
 -- a block of which no call is for the port
-abbrev pub further_steps : FurtherBlock → CallerScript Step
+abbrev pub further_steps : FurtherBlock → CallerScript CallerStep
 further_steps b = record { port = b.port; name = b.name.bytes; calls = replicate b.steps None }
 
 -- a phase; `lines` and `ticks` have one item for each port
 pub record StepsPhase : Type 0 where
   pub lines : List (List LineStep)
   pub ticks : List ℕ
-  pub callers : List (CallerScript Step)
+  pub callers : List (CallerScript CallerStep)
 
 -- the scripts of a phase with the calls that are placed in them, and behind them blocks of others
 abbrev pub phase_steps : {C : Type 0} → PlainPhase → List (PlacedCall C) → List FurtherBlock → StepsPhase
@@ -62,29 +62,29 @@ abbrev pub block_phase_of : StepsPhase → BlockPhase
 block_phase_of phase = record { lines = phase.lines; ticks = phase.ticks; blocks = map block_of phase.callers }
 
 -- all scripts of all phases
-abbrev pub scripts_in : List StepsPhase → List (CallerScript Step)
+abbrev pub scripts_in : List StepsPhase → List (CallerScript CallerStep)
 scripts_in phases = flat_map (λ phase. phase.callers) phases
 
-abbrev pub step_at : List (CallerScript Step) → (p c step : ℕ) → Option Step
+abbrev pub step_at : List (CallerScript CallerStep) → (p c step : ℕ) → Option CallerStep
 step_at scripts p c step =
     numbered_call (names_on p (map block_of scripts)) (filter (λ s. s.port == p) scripts) c step
 
 -- ---- what was passed down
 
-abbrev pub own_call : Option Step → List PlainCall
+abbrev pub own_call : Option CallerStep → List PlainCall
 own_call (Some (Some call)) = call ∷ []
 own_call other = []
 
 -- at a step, where this is made
-abbrev pub calls_down : Option Step → Down → List PlainCall
+abbrev pub calls_down : Option CallerStep → Down → List PlainCall
 calls_down made down.Call = own_call made
 calls_down made (down.Hangup h) = hangs_up h ∷ []
 
-abbrev pub passing_of : (made : (c step : ℕ) → Option Step) → PassedDown → Passing
+abbrev pub passing_of : (made : (c step : ℕ) → Option CallerStep) → PassedDown → Passing
 passing_of made d = record { caller = d.caller; step = d.step; calls = calls_down (made d.caller d.step) d.down }
 
 -- of each port
-abbrev pub passings_of : List (CallerScript Step) → List (List PassedDown) → Passed
+abbrev pub passings_of : List (CallerScript CallerStep) → List (List PassedDown) → Passed
 passings_of scripts passed p = map (passing_of (step_at scripts p)) (slice_index_or passed p [])
 
 abbrev pub derived_of : PlainSession → List StepsPhase → List (List PassedDown) → PlainSession

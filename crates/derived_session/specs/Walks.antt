@@ -5,12 +5,12 @@ use Rattle.tty_calls.specs.Plain.{PlainCall}
 use Rattle.passed_calls.specs.declared.placed.PlacedCall.{PlacedCall}
 use Rattle.passed_calls.specs.Scripts.{mixed}
 use Rattle.derived_session.specs.declared.calls.Cursor.{Cursor}
-use Rattle.derived_session.specs.declared.slots.Slot.{Slot}
-use Rattle.derived_session.specs.Steps.{Step, step_of}
+use Rattle.derived_session.specs.declared.slots.StepSlot.{StepSlot}
+use Rattle.derived_session.specs.Steps.{CallerStep, step_of}
 use Rattle.derived_session.specs.Slots.{calls_from}
 
 -- the steps from here on
-abbrev pub steps_left : {C : Type 0} → List PlainCall → List (PlacedCall C) → Cursor → List Step
+abbrev pub steps_left : {C : Type 0} → List PlainCall → List (PlacedCall C) → Cursor → List CallerStep
 steps_left calls placed at = map step_of (mixed at.place (drop at.taken calls) (drop at.own placed))
 
 -- the place of the next call, where it is not for the port: of a script that has so many for it
@@ -22,7 +22,7 @@ next_further count None at = None
 next_further count (Some call) at = further_place count call.place at
 
 -- one step more, with these calls so far
-pub record StepsOn {C : Type 0} (slots : List Slot) (calls : List PlainCall) (placed : List (PlacedCall C))
+pub record WalksOn {C : Type 0} (slots : List StepSlot) (calls : List PlainCall) (placed : List (PlacedCall C))
     (at : Cursor) (old : List PlainCall) (next : Cursor) (new : List PlainCall) : Type 0 where
   pub calls_are : new ++ calls_from slots next.step (steps_left calls placed next)
       ≡ old ++ calls_from slots at.step (steps_left calls placed at)

@@ -1,14 +1,14 @@
 //! The calls of a script that were passed down.
 
-ghost use Rattle.std.specs.Prelude.{◌≡◌, ◌+◌, ◌<◌, ◌≤◌, ◌++◌, IfOk, OnOk, None, Some, IsTrue};
-ghost use Rattle.std.specs.Prelude.{◌||◌, drop, length, map, nat_lt, replicate, slice_get};
+ghost use Rattle.std.specs.Prelude.{◌≡◌, ◌+◌, ◌<◌, ◌++◌, IfOk, OnOk, None, Some, IsTrue};
+ghost use Rattle.std.specs.Prelude.{◌||◌, length, map, nat_lt, replicate, slice_get};
 ghost use Rattle.tty_calls.specs.Plain.{call_of};
 ghost use Rattle.passed_calls.specs.Scripts.{mixed};
 ghost use Rattle.derived_session.specs.Steps.{step_of};
 ghost use Rattle.derived_session.specs.Slots.{calls_from, hangup_list, slot_calls, slot_in};
-ghost use Rattle.derived_session.specs.Walks.{StepsOn, further_place, next_further};
+ghost use Rattle.derived_session.specs.Walks.{WalksOn, further_place, next_further};
 
-use crate::slots::Slot;
+use crate::slots::StepSlot;
 use passed_calls::PlacedCall;
 use std::alloc::Global;
 use tty_base::NoMemory;
@@ -28,7 +28,7 @@ pub(crate) struct Cursor {
 /// than can be counted are want of memory.
 pub(crate) fn calls_passed<C: Copy>(
     alloc: Global,
-    slots: &[Slot],
+    slots: &[StepSlot],
     first: usize,
     calls: &Calls,
     placed: &[PlacedCall<C>],
@@ -53,14 +53,14 @@ pub(crate) fn calls_passed<C: Copy>(
 /// Adds what was passed down at the next step of a script.
 fn pass_next<C: Copy>(
     made: &mut Calls,
-    slots: &[Slot],
+    slots: &[StepSlot],
     at: Cursor,
     calls: &Calls,
     placed: &[PlacedCall<C>],
 ) -> Result<Cursor, NoMemory>
     requires { IsTrue (nat_lt at.taken (length calls.now.items) || nat_lt at.own (length placed.now)) }
     ensures { IfOk result
-        (λ next. StepsOn slots.now calls.now.items placed.now at made.old.items next made.new.items) }
+        (λ next. WalksOn slots.now calls.now.items placed.now at made.old.items next made.new.items) }
 {
     let slot = slot_in(slots, at.step);
     let step = at.step.checked_add(1).ok_or(NoMemory)?;
@@ -110,17 +110,17 @@ fn further_place(at: Cursor, count: usize, place: u64) -> Option<u64>
 }
 
 /// What was passed down at a step.
-fn slot_in(slots: &[Slot], step: usize) -> Slot
+fn slot_in(slots: &[StepSlot], step: usize) -> StepSlot
     ensures { result ≡ slot_in slots.now step }
 {
     match slots.get(step) {
-        None => Slot::empty(),
+        None => StepSlot::empty(),
         Some(slot) => *slot,
     }
 }
 
 /// Adds what was passed down at a step where this call is made.
-fn add_call(made: &mut Calls, slot: Slot, call: &Call) -> Result<(), NoMemory>
+fn add_call(made: &mut Calls, slot: StepSlot, call: &Call) -> Result<(), NoMemory>
     ensures { OnOk result (made.new.items ≡ made.old.items ++ slot_calls slot (Some (call_of call.now))) }
 {
     if slot.own {
@@ -142,7 +142,7 @@ fn add_hangup(made: &mut Calls, hangup: Option<u8>) -> Result<(), NoMemory>
 /// behind them.
 pub(crate) fn hangups_passed(
     alloc: Global,
-    slots: &[Slot],
+    slots: &[StepSlot],
     first: usize,
     count: u32,
 ) -> Result<(Calls, usize), NoMemory>

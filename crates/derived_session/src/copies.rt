@@ -1,9 +1,9 @@
 //! What a derived session has word for word.
 
 ghost use Rattle.std.specs.Prelude.{◌≡◌, ◌++◌, IfOk, OnOk, map};
-ghost use Rattle.line_steps.specs.Steps.{steps_in, steps_of};
+ghost use Rattle.line_steps.specs.Steps.{steps_of};
 
-use line_steps::{LineSteps, Part};
+use line_steps::{LinePart, LineSteps};
 use std::alloc::Global;
 use tty_base::{Buffer, NoMemory};
 
@@ -30,15 +30,15 @@ fn line_of(alloc: Global, line: &LineSteps) -> Result<LineSteps, NoMemory>
     Ok(copy)
 }
 
-fn add_part(alloc: Global, steps: &mut LineSteps, part: &Part) -> Result<(), NoMemory>
+fn add_part(alloc: Global, steps: &mut LineSteps, part: &LinePart) -> Result<(), NoMemory>
     ensures { OnOk result (steps.new.items ≡ steps.old.items ++ steps_of part.now) }
 {
     match part {
-        Part::Run(flag, bytes) => {
+        LinePart::Run(flag, bytes) => {
             let mut run = Vec::new(alloc);
             run.extend_from_slice(bytes.as_slice())?;
             steps.add_run(*flag, run)
         }
-        Part::One(step) => steps.add(*step),
+        LinePart::One(step) => steps.add(*step),
     }
 }

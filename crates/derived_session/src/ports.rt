@@ -8,7 +8,7 @@ ghost use Rattle.derived_session.specs.Slots.{no_slot, slot_after, slot_at};
 
 use crate::calls::{calls_passed, hangups_passed};
 use crate::passed::{FurtherBlock, PassedDown};
-use crate::slots::{Slot, slots_of};
+use crate::slots::{StepSlot, slots_of};
 use arrayvec::ArrayString;
 use passed_calls::PlacedCall;
 use std::alloc::Global;
@@ -20,7 +20,7 @@ use tty_calls::{Names, Script};
 #[derive(Drop)]
 pub(crate) struct PortSteps {
     names: Names,
-    slots: Vec<Vec<Slot>>,
+    slots: Vec<Vec<StepSlot>>,
     next: Vec<usize>,
 }
 
@@ -115,7 +115,7 @@ impl PortSteps {
 }
 
 /// What a caller passed down.
-fn slots_by(slots: &[Vec<Slot>], caller: usize) -> &[Slot]
+fn slots_by(slots: &[Vec<StepSlot>], caller: usize) -> &[StepSlot]
     ensures { result.now ≡ slice_index_or (map (λ s. s.items) slots.now) caller [] }
 {
     match slots.get(caller) {

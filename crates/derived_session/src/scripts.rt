@@ -1,14 +1,14 @@
 //! The scripts of a phase.
 
-ghost use Rattle.std.specs.Prelude.{◌≡◌, ◌≤◌, ◌==◌, ◌++◌, ◌-◌, ◌<◌, All, IfOk, OnOk, length, map, not, position};
+ghost use Rattle.std.specs.Prelude.{◌≡◌, ◌≤◌, ◌++◌, ◌-◌, ◌<◌, All, IfOk, OnOk, length, map};
 ghost use Rattle.tty_calls.specs.Sessions.{script_of};
 ghost use Rattle.passed_calls.specs.Scripts.{count_in, mixed_scripts};
-ghost use Rattle.derived_session.specs.Steps.{further_steps, steps_in, steps_with};
-ghost use Rattle.derived_session.specs.Making.{ports_after, ports_then, port_at, script_made, scripts_made};
+ghost use Rattle.derived_session.specs.Steps.{further_steps, steps_in};
+ghost use Rattle.derived_session.specs.Making.{ports_after, scripts_made};
 
 use crate::passed::FurtherBlock;
 use crate::ports::PortSteps;
-use passed_calls::PlacedCall;
+use passed_calls::{PlacedCall, count_in};
 use std::alloc::Global;
 use tty_base::{Buffer, NoMemory};
 use tty_calls::Script;
@@ -82,22 +82,4 @@ fn add_others(
         made.add(port.make_further(alloc, block)?);
     }
     Ok(())
-}
-
-/// How many of these calls stand in a script.
-fn count_in<C: Copy>(script: usize, placed: &[PlacedCall<C>]) -> usize
-    ensures count { result ≡ count_in script placed.now }
-    ensures within { result ≤ length placed.now }
-{
-    match first_beside(script, placed) {
-        None => placed.len(),
-        Some(count) => count,
-    }
-}
-
-/// The first of these calls that does not stand in a script.
-fn first_beside<C: Copy>(script: usize, placed: &[PlacedCall<C>]) -> Option<usize>
-    ensures { result ≡ position (λ o. not (o.script == script)) placed.now }
-{
-    placed.iter().position(|call| call.script != script)
 }

@@ -1,6 +1,6 @@
 //! A session that is derived.
 
-ghost use Rattle.std.specs.Prelude.{◌≡◌, ◌≤◌, ◌<◌, ◌++◌, ℕ, All, IfOk, OnOk, [], ◌∷◌, length, map, slice_index_or};
+ghost use Rattle.std.specs.Prelude.{◌≡◌, ◌≤◌, ◌<◌, ℕ, All, IfOk, OnOk, [], length, map, slice_index_or};
 ghost use Rattle.tty_calls.specs.Sessions.{phase_of, session_of};
 ghost use Rattle.passed_calls.specs.Derived.{by_caller, calls_at};
 ghost use Rattle.derived_session.specs.Steps.{derived_of, passings_of, phase_steps, phases_steps, scripts_in};

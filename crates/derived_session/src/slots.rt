@@ -9,28 +9,28 @@ use tty_base::NoMemory;
 
 /// What was passed down at a step: the call that is made there, and a hangup.
 #[derive(Clone, Copy)]
-pub(crate) struct Slot {
+pub(crate) struct StepSlot {
     pub(crate) own: bool,
     pub(crate) hangup: Option<u8>,
 }
 
-impl Slot {
+impl StepSlot {
     /// Nothing.
-    pub(crate) fn empty() -> Slot
+    pub(crate) fn empty() -> StepSlot
         ensures { result ≡ no_slot }
     {
-        Slot {
+        StepSlot {
             own: false,
             hangup: None,
         }
     }
 
-    fn with(self, down: Down) -> Slot
+    fn with(self, down: Down) -> StepSlot
         ensures { result ≡ with_down self down }
     {
         match down {
-            Down::Call => Slot { own: true, ..self },
-            Down::Hangup(h) => Slot {
+            Down::Call => StepSlot { own: true, ..self },
+            Down::Hangup(h) => StepSlot {
                 hangup: Some(h),
                 ..self
             },
@@ -39,7 +39,7 @@ impl Slot {
 }
 
 /// What each caller passed down at each step.
-pub(crate) fn slots_of(alloc: Global, passed: &[PassedDown]) -> Result<Vec<Vec<Slot>>, NoMemory>
+pub(crate) fn slots_of(alloc: Global, passed: &[PassedDown]) -> Result<Vec<Vec<StepSlot>>, NoMemory>
     ensures { IfOk result (λ slots.
         (c step : ℕ) → slot_at (map (λ s. s.items) slots.items) c step ≡ slot_after no_slot passed.now c step) }
 {
@@ -50,7 +50,7 @@ pub(crate) fn slots_of(alloc: Global, passed: &[PassedDown]) -> Result<Vec<Vec<S
     Ok(slots)
 }
 
-fn note(alloc: Global, slots: &mut Vec<Vec<Slot>>, one: PassedDown) -> Result<(), NoMemory>
+fn note(alloc: Global, slots: &mut Vec<Vec<StepSlot>>, one: PassedDown) -> Result<(), NoMemory>
     ensures { OnOk result ((c step : ℕ)
         → slot_at (map (λ s. s.items) slots.new.items) c step
         ≡ (if one.caller == c && one.step == step
@@ -63,7 +63,11 @@ fn note(alloc: Global, slots: &mut Vec<Vec<Slot>>, one: PassedDown) -> Result<()
 }
 
 /// Makes this caller one of those that are kept.
-fn reach_caller(alloc: Global, slots: &mut Vec<Vec<Slot>>, caller: usize) -> Result<(), NoMemory>
+fn reach_caller(
+    alloc: Global,
+    slots: &mut Vec<Vec<StepSlot>>,
+    caller: usize,
+) -> Result<(), NoMemory>
     ensures room { OnOk result (caller < length slots.new.items) }
     ensures same { OnOk result ((c step : ℕ)
         → slot_at (map (λ s. s.items) slots.new.items) c step
@@ -75,7 +79,7 @@ fn reach_caller(alloc: Global, slots: &mut Vec<Vec<Slot>>, caller: usize) -> Res
     Ok(())
 }
 
-fn note_step(steps: &mut Vec<Slot>, at: usize, down: Down) -> Result<(), NoMemory>
+fn note_step(steps: &mut Vec<StepSlot>, at: usize, down: Down) -> Result<(), NoMemory>
     ensures { OnOk result ((step : ℕ)
         → slot_in steps.new.items step
         ≡ (if at == step then with_down (slot_in steps.old.items step) down else slot_in steps.old.items step)) }
@@ -86,12 +90,12 @@ fn note_step(steps: &mut Vec<Slot>, at: usize, down: Down) -> Result<(), NoMemor
 }
 
 /// Makes this step one of those that are kept.
-fn reach_step(steps: &mut Vec<Slot>, at: usize) -> Result<(), NoMemory>
+fn reach_step(steps: &mut Vec<StepSlot>, at: usize) -> Result<(), NoMemory>
     ensures room { OnOk result (at < length steps.new.items) }
     ensures same { OnOk result ((step : ℕ) → slot_in steps.new.items step ≡ slot_in steps.old.items step) }
 {
     while steps.len() <= at {
-        steps.push(Slot::empty())?;
+        steps.push(StepSlot::empty())?;
     }
     Ok(())
 }

@@ -7,7 +7,7 @@ use Rattle.std.specs.List.{All}
 use Rattle.tty_base.specs.Characters.{good_character, good_characters}
 use Rattle.tty_base.specs.declared.characters.Flagged.{Flagged}
 use Rattle.word_ring.specs.Ends.{PutterState, TakerState, IsOneWithin, Passes, with_taken}
-use Rattle.word_ring.specs.Lanes.{lane, lanes}
+use Rattle.word_ring.specs.Lanes.{LANE, THREE_LANES, TWO_LANES, lane, lanes}
 use Rattle.flip_buffer.specs.Packed.{char_of, flag_of_number, in_state, out_state}
 
 pub chars_begin : (xs ys : List ℕ) → IsPrefix xs ys → IsPrefix (map char_of xs) (map char_of ys)
@@ -75,14 +75,14 @@ none_left t (x ∷ xs) all = refl
 
 -- the characters of a word
 pub four_of_word : (w : ℕ) (a b c d : Flagged)
-    → a ≡ char_of (w % 65536)
-    → b ≡ char_of (w / 65536 % 65536)
-    → c ≡ char_of (w / 4294967296 % 65536)
-    → d ≡ char_of (w / 281474976710656 % 65536)
+    → a ≡ char_of (w % LANE)
+    → b ≡ char_of (w / LANE % LANE)
+    → c ≡ char_of (w / TWO_LANES % LANE)
+    → d ≡ char_of (w / THREE_LANES % LANE)
     → a ∷ b ∷ c ∷ d ∷ [] ≡ map char_of (lanes w 4)
 unfolding lane
 four_of_word w a b c d p q r s =
-    let first : w % 65536 ≡ w / 1 % 65536 = omega arith in
+    let first : w % LANE ≡ w / 1 % LANE = omega arith in
     λ i. (p ∙ ap char_of first) i ∷ q i ∷ r i ∷ s i ∷ []
 
 -- ---- what passes

@@ -21,9 +21,13 @@ flag_of_number (suc (suc (suc (suc n)))) = Overrun
 abbrev pub char_of : ℕ → Flagged
 char_of n = record { byte = n % 256; flag = flag_of_number (n / 256) }
 
+-- what is added to a byte that has the last flag
+abbrev pub MOST_MARK : ℕ
+MOST_MARK = 1024
+
 -- added to a byte, this is the number of that byte with this flag
-pub record Marks (flag : Flag) (mark : ℕ) : Type 0 where
-  pub few : mark ≤ 1024
+pub record FlagMark (flag : Flag) (mark : ℕ) : Type 0 where
+  pub few : mark ≤ MOST_MARK
   pub seen : (byte : ℕ) → byte < 256 → char_of (byte + mark) ≡ record { byte = byte; flag = flag }
 
 -- an end of the ring, its numbers seen as characters

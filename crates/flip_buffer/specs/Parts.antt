@@ -1,5 +1,6 @@
 -- What the two ends of a flip buffer have, and how contracts see them.
 use Rattle.std.specs.Prelude.{◌≤◌}
+use Rattle.tty_base.specs.Sizes.{LEAST_FLIP}
 use Rattle.tty_base.specs.declared.characters.Flagged.{Flagged}
 use Rattle.word_ring.specs.Ends.{PutterState, TakerState, NoteState}
 use Rattle.flip_buffer.specs.declared.input.FlipIn.TheInside.{Inside as InInside}
@@ -18,7 +19,7 @@ flip_out f = out_state f.taker
 
 -- each end has room for a whole window of the line, and for a piece of a flush
 abbrev pub HasRoomIn : InInside → Type 0
-HasRoomIn f = 64 ≤ f.putter.capacity
+HasRoomIn f = LEAST_FLIP ≤ f.putter.capacity
 
 abbrev pub HasRoomOut : OutInside → Type 0
-HasRoomOut f = 64 ≤ f.taker.capacity
+HasRoomOut f = LEAST_FLIP ≤ f.taker.capacity

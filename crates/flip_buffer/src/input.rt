@@ -1,6 +1,7 @@
 //! The end that puts characters in, and its notes.
-ghost use Rattle.std.specs.Prelude.{◌≡◌, ◌+◌, ◌<◌, ◌≤◌, ◌^◌, [], ◌∷◌, ◌++◌, length, OnOk, OnErr, MatchResult};
+ghost use Rattle.std.specs.Prelude.{◌≡◌, ◌+◌, ◌<◌, ◌≤◌, [], ◌∷◌, ◌++◌, length, OnOk, OnErr, MatchResult};
 ghost use Rattle.std.specs.List.Sorted.{IsNonDecreasing};
+ghost use Rattle.tty_base.specs.Sizes.{LEAST_FLIP, MOST_SENT};
 ghost use Rattle.word_ring.specs.Ends.{with_loaded};
 
 use crate::packed::number_of;
@@ -45,7 +46,8 @@ impl Model for FlipNote {
 }
 
 impl Put for FlipIn {
-    ghost use Rattle.std.specs.Prelude.{◌≡◌, ◌-◌, ◌^◌, length};
+    ghost use Rattle.std.specs.Prelude.{◌≡◌, ◌-◌, length};
+    ghost use Rattle.tty_base.specs.Sizes.{MOST_SENT};
     ghost use Rattle.word_ring.specs.Names.{name_of};
 
     ghost sent = { λ f. f.sent };
@@ -58,12 +60,12 @@ impl Put for FlipIn {
 
     ghost name = { λ f. name_of f.ring };
 
-    ghost numbers_left = { λ f. 2 ^ 63 - length f.sent };
+    ghost numbers_left = { λ f. MOST_SENT - length f.sent };
 
     /// Puts a character. `Full` says how many were put and how many of these were taken, at the head
     /// that this call loaded, and comes where as many as the capacity are left.
     fn put(&mut self, c: Flagged) -> Result<(), Full>
-        requires { length self.old.sent < 2 ^ 63 }
+        requires { length self.old.sent < MOST_SENT }
         ensures ok { OnOk result
             (self.new ≡ record (with_loaded self.old self.new.floor) { sent = self.old.sent ++ c ∷ [] }) }
         ensures full { OnErr result (self.new ≡ with_loaded self.old self.new.floor) }
@@ -95,7 +97,7 @@ impl FlipIn {
     #[inline(always)]
     pub fn capacity(&self) -> usize
         ensures count { result ≡ self.now.capacity }
-        ensures least { 64 ≤ self.now.capacity }
+        ensures least { LEAST_FLIP ≤ self.now.capacity }
     {
         self.putter.capacity()
     }
@@ -121,7 +123,7 @@ impl FlipIn {
     /// Puts a character for which there is room by the latest head that was loaded.
     #[inline(always)]
     pub fn put_known(&mut self, c: Flagged)
-        requires small { length self.old.sent < 2 ^ 63 }
+        requires small { length self.old.sent < MOST_SENT }
         requires room { length self.old.sent < self.old.floor + self.old.capacity }
         ensures { self.new ≡ record self.old { sent = self.old.sent ++ c ∷ [] } }
     {

@@ -1,5 +1,6 @@
 //! The end that takes characters out.
 ghost use Rattle.std.specs.Prelude.{◌≡◌, ℕ, ◌+◌, ◌-◌, ◌<◌, ◌≤◌, true, List, [], ◌∷◌, ◌++◌, length, take, min, max, All};
+ghost use Rattle.tty_base.specs.Sizes.{LEAST_FLIP};
 ghost use mathlib.Core.List.{IsPrefix};
 ghost use Rattle.arrayvec.specs.ArrayVec.{array_vec_len};
 ghost use Rattle.tty_base.specs.declared.characters.Flagged.{Flagged};
@@ -39,7 +40,7 @@ impl FlipOut {
     #[inline(always)]
     pub fn capacity(&self) -> usize
         ensures count { result ≡ self.now.capacity }
-        ensures least { 64 ≤ self.now.capacity }
+        ensures least { LEAST_FLIP ≤ self.now.capacity }
     {
         self.taker.capacity()
     }

@@ -1,11 +1,12 @@
 //! A character in a number of 16 bits.
 ghost use Rattle.std.specs.Prelude.{◌≡◌, ◌+◌, ◌-◌, ◌/◌, ◌%◌, ◌<◌, ◌≤◌, ◌++◌, map, length, IsTrue};
 ghost use Rattle.arrayvec.specs.ArrayVec.{array_vec_len};
-ghost use Rattle.word_ring.specs.Lanes.{lanes};
-ghost use Rattle.flip_buffer.specs.Packed.{char_of, flag_of_number, Marks};
+ghost use Rattle.word_ring.specs.Lanes.{LANE, THREE_LANES, TWO_LANES, lanes};
+ghost use Rattle.flip_buffer.specs.Packed.{char_of, flag_of_number, FlagMark};
 
 use arrayvec::ArrayVec;
 use tty_base::{Chars, Flag, Flagged};
+use word_ring::{LANE, THREE_LANES, TWO_LANES};
 
 #[inline(always)]
 fn flag_number(flag: Flag) -> u16
@@ -37,7 +38,7 @@ fn numbered_flag(number: u16) -> Flag
 /// What is added to a byte that has this flag.
 #[inline(always)]
 pub(crate) fn mark_of(flag: Flag) -> u16
-    ensures { Marks flag result }
+    ensures { FlagMark flag result }
 {
     256 * flag_number(flag)
 }
@@ -81,9 +82,9 @@ pub(crate) fn add_characters(word: u64, out: &mut Chars)
     if are_good(word) {
         out.add_four([
             good_character_of(word),
-            good_character_of(word / 65536),
-            good_character_of(word / 4294967296),
-            good_character_of(word / 281474976710656),
+            good_character_of(word / LANE),
+            good_character_of(word / TWO_LANES),
+            good_character_of(word / THREE_LANES),
         ]);
     } else {
         add_any_characters(word, out);
@@ -97,10 +98,10 @@ fn add_any_characters(word: u64, out: &mut Chars)
     ensures { out.new ≡ record { items = out.old.items ++ map char_of (lanes word 4); spare = out.old.spare - 4 } }
 {
     out.add_four([
-        character_of((word % 65536) as u16),
-        character_of((word / 65536 % 65536) as u16),
-        character_of((word / 4294967296 % 65536) as u16),
-        character_of((word / 281474976710656 % 65536) as u16),
+        character_of((word % LANE) as u16),
+        character_of((word / LANE % LANE) as u16),
+        character_of((word / TWO_LANES % LANE) as u16),
+        character_of((word / THREE_LANES % LANE) as u16),
     ]);
 }
 
@@ -108,10 +109,10 @@ fn add_any_characters(word: u64, out: &mut Chars)
 #[inline(always)]
 fn are_good(word: u64) -> bool
     ensures { IsTrue result
-        → (word % 65536 < 256)
-        × (word / 65536 % 65536 < 256)
-        × (word / 4294967296 % 65536 < 256)
-        × (word / 281474976710656 % 65536 < 256) }
+        → (word % LANE < 256)
+        × (word / LANE % LANE < 256)
+        × (word / TWO_LANES % LANE < 256)
+        × (word / THREE_LANES % LANE < 256) }
 {
     word / 256 % 256 == 0
         && word / 16777216 % 256 == 0
@@ -122,8 +123,8 @@ fn are_good(word: u64) -> bool
 /// The good character that the first number of a word stands for.
 #[inline(always)]
 fn good_character_of(word: u64) -> Flagged
-    requires { word % 65536 < 256 }
-    ensures { result ≡ char_of (word % 65536) }
+    requires { word % LANE < 256 }
+    ensures { result ≡ char_of (word % LANE) }
 {
     Flagged::good((word % 256) as u8)
 }

@@ -1,5 +1,6 @@
 //! Good characters go from the one end straight to the other, where both are at hand and nothing waits.
-ghost use Rattle.std.specs.Prelude.{◌≡◌, ◌↔◌, ◌+◌, ◌^◌, ◌≤◌, length, IsTrue};
+ghost use Rattle.std.specs.Prelude.{◌≡◌, ◌↔◌, ◌+◌, ◌≤◌, length, IsTrue};
+ghost use Rattle.tty_base.specs.Sizes.{MOST_SENT};
 ghost use Rattle.word_ring.specs.Ends.{NothingWaits, Passes};
 ghost use Rattle.tty_base.specs.Characters.{good_characters};
 
@@ -22,7 +23,7 @@ impl FlipOut {
         requires ring { input.old.ring ≡ self.old.ring }
         requires clear { NothingWaits input.old self.old }
         requires room { length bytes.now ≤ self.old.capacity }
-        requires small { length input.old.sent + length bytes.now ≤ 2 ^ 63 }
+        requires small { length input.old.sent + length bytes.now ≤ MOST_SENT }
         ensures { Passes input.old input.new self.old self.new (good_characters bytes.now) }
     {
         self.taker.pass(&mut input.putter, bytes);

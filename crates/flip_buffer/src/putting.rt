@@ -1,7 +1,8 @@
 //! Bytes that have one flag are put four at a time, and what is left one by one: each four leave what four times
 //! `put_known` would.
-ghost use Rattle.std.specs.Prelude.{◌≡◌, ◌+◌, ◌<◌, ◌≤◌, ◌^◌, [], ◌∷◌, ◌++◌, map, length, take};
-ghost use Rattle.flip_buffer.specs.Packed.{char_of, with_flag, Marks};
+ghost use Rattle.std.specs.Prelude.{◌≡◌, ◌+◌, ◌<◌, ◌≤◌, [], ◌∷◌, ◌++◌, map, length, take};
+ghost use Rattle.tty_base.specs.Sizes.{MOST_SENT};
+ghost use Rattle.flip_buffer.specs.Packed.{char_of, with_flag, FlagMark};
 
 use crate::input::FlipIn;
 use crate::packed::mark_of;
@@ -10,7 +11,7 @@ use tty_base::Flag;
 impl FlipIn {
     /// Puts bytes, each with this flag, for which there is room by the latest head that was loaded.
     pub fn put_run(&mut self, bytes: &[u8], flag: Flag)
-        requires small { length self.old.sent + length bytes.now ≤ 2 ^ 63 }
+        requires small { length self.old.sent + length bytes.now ≤ MOST_SENT }
         requires room { length self.old.sent + length bytes.now ≤ self.old.floor + self.old.capacity }
         ensures { self.new ≡ record self.old { sent = self.old.sent ++ with_flag flag bytes.now } }
     {
@@ -27,7 +28,7 @@ impl FlipIn {
     // Puts the characters that four numbers stand for, for which there is room by the latest head that was loaded.
     #[inline(always)]
     fn put_four(&mut self, numbers: [u16; 4])
-        requires small { length self.old.sent + 4 ≤ 2 ^ 63 }
+        requires small { length self.old.sent + 4 ≤ MOST_SENT }
         requires room { length self.old.sent + 4 ≤ self.old.floor + self.old.capacity }
         ensures { self.new ≡ record self.old { sent = self.old.sent ++ map char_of numbers } }
     {
@@ -37,7 +38,7 @@ impl FlipIn {
     // Puts the character that a number stands for, for which there is room by the latest head that was loaded.
     #[inline(always)]
     fn put_one(&mut self, number: u16)
-        requires small { length self.old.sent < 2 ^ 63 }
+        requires small { length self.old.sent < MOST_SENT }
         requires room { length self.old.sent < self.old.floor + self.old.capacity }
         ensures { self.new ≡ record self.old { sent = self.old.sent ++ char_of number ∷ [] } }
     {
@@ -49,7 +50,7 @@ impl FlipIn {
 #[inline(always)]
 fn four_at(bytes: &[u8], at: usize, flag: Flag, mark: u16) -> [u16; 4]
     requires within { at + 4 ≤ length bytes.now }
-    requires marks { Marks flag mark }
+    requires marks { FlagMark flag mark }
     ensures { with_flag flag (take (at + 4) bytes.now) ≡ with_flag flag (take at bytes.now) ++ map char_of result }
 {
     [
@@ -64,9 +65,9 @@ fn four_at(bytes: &[u8], at: usize, flag: Flag, mark: u16) -> [u16; 4]
 #[inline(always)]
 fn one_at(bytes: &[u8], at: usize, flag: Flag, mark: u16) -> u16
     requires within { at < length bytes.now }
-    requires marks { Marks flag mark }
+    requires marks { FlagMark flag mark }
     ensures { with_flag flag (take (at + 1) bytes.now) ≡ with_flag flag (take at bytes.now) ++ char_of result ∷ [] }
 {
-    let _ = flag;
+    let _ = flag; // for the contract alone
     u16::from(bytes[at]) + mark
 }

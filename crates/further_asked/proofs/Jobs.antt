@@ -27,7 +27,8 @@ use Rattle.further_asked.specs.Asked.{AskedPhase, AskNoMore, AsksWithin, any_ask
 use Rattle.further_asked.specs.Asked.{asks_of, block_phases, call_asks, scripts_over}
 use Rattle.further_asked.specs.Jobs.{asked_phase_of, asked_phases}
 use Rattle.further_asked.proofs.Mixing.{phases_ask, scripts_ask}
-use Rattle.further_asked.proofs.Scripts.{AsksThree, asked_blocks, asked_call, asked_on_port, hangup_within, scripts_three}
+use Rattle.further_asked.proofs.Scripts.{AsksThree, asked_blocks, asked_call, asked_on_port, hangup_within}
+use Rattle.further_asked.proofs.Scripts.{scripts_three}
 use Rattle.further_asked.proofs.Texts.{Each, left_asks}
 
 -- ---- a text
@@ -73,7 +74,8 @@ asks_by text session p h =
       calls_many h.parts,
       text_asks _ h.base p h.spells,
       ap (λ (cs : List OwnCall). length cs) h.calls,
-      left_asks verb_text all_verbs calls_by calls_said refl (λ word arguments. refl) (λ arguments. omega arith) few_said verbs_long
+      left_asks verb_text all_verbs calls_by calls_said refl (λ word arguments. refl) (λ arguments. omega arith)
+          few_said verbs_long
           text,
     )
 
@@ -108,7 +110,8 @@ flat_scripts : (p : ℕ) (phases : List JobsPhase)
     ≡ map asks_of (flat_map (λ (phase : JobsPhase). filter (λ s. s.port == p) phase.callers) phases)
 flat_scripts p [] = refl
 flat_scripts p (phase ∷ phases) =
-    ap (λ (ss : List (CallerScript ℕ)). ss ++ scripts_over p (map asked_phase_of phases)) (asked_on_port p phase.callers)
+    ap (λ (ss : List (CallerScript ℕ)). ss ++ scripts_over p (map asked_phase_of phases))
+    (asked_on_port p phase.callers)
     ∙ (ap (λ (ss : List (CallerScript ℕ)). map asks_of (filter (λ s. s.port == p) phase.callers) ++ ss)
     (flat_scripts p phases)
     ∙ sym (map-append asks_of (filter (λ s. s.port == p) phase.callers)

@@ -13,7 +13,8 @@ use Rattle.tty_calls.specs.Sessions.{scripts_over as plain_scripts_over}
 use Rattle.session_text.specs.Asked.{asked_of}
 use Rattle.passed_calls.specs.declared.placed.PlacedCall.{PlacedCall}
 use Rattle.passed_calls.specs.Derived.{BlockPhase}
-use Rattle.passed_calls.specs.Scripts.{AnyCall, CallerScript, plain, further, mixed, count_in, mixed_scripts, phases_with}
+use Rattle.passed_calls.specs.Scripts.{AnyCall, CallerScript, plain, further, mixed, count_in, mixed_scripts}
+use Rattle.passed_calls.specs.Scripts.{phases_with}
 use Rattle.passed_calls.proofs.Mixed.{map_phases, phases_count, phases_weigh}
 use Rattle.further_asked.specs.Asked.{AskedPhase, any_asks, asked_on, asks_of, block_phase_of, call_asks}
 
@@ -137,8 +138,10 @@ module _ {P : Type 0} (with_part : PlainPhase → P → AskedPhase) (nothing : P
             parts 0 phases none each,
         flat_sum plain_asks (scripts_on p) phases,
         scripts_parts (plain_scripts_over p phases),
-        ap (λ (bs : List BlockPhase). sum_by characters bs) (map_phases with_part block_phase_of nothing parts 0 phases),
+        ap (λ (bs : List BlockPhase). sum_by characters bs) (map_phases with_part block_phase_of nothing parts 0
+            phases),
         phases_count (λ phase part. block_phase_of (with_part phase part)) nothing characters
             (λ phase. arrival_count (line_on p phase)) parts 0 phases
-            (λ phase part. ap (λ (ls : List (List LineStep)). arrival_count (slice_index_or ls p [])) (lines phase part)),
+            (λ phase part. ap (λ (ls : List (List LineStep)). arrival_count (slice_index_or ls p []))
+            (lines phase part)),
       )

@@ -2,30 +2,27 @@
 use Rattle.std.proofs.Common.{◌≡◌, inl, inr, ℕ, zero, suc, ◌+◌, ◌-◌, ◌*◌, ◌<◌, ◌≤◌, ◌==◌, Bool, true, false, cond}
 use Rattle.std.proofs.Common.{Option, None, Some, Ok, Err, List, [], ◌∷◌, ◌++◌, length, map, refl, sym, ap, ◌∙◌}
 use Rattle.std.proofs.Common.{if◌then◌else◌, subst, arith, append-nil, length-append}
-use Rattle.std.specs.Prelude.{◌||◌, All, filter, flat_map, option_map, replicate, slice_get, slice_index_or, sum_by}
+use Rattle.std.specs.Prelude.{All, filter, flat_map, option_map, replicate, slice_get, slice_index_or, sum_by}
 use Rattle.std.specs.List.{range_with_len}
 use Rattle.std.specs.Str.{bytes_eq}
-use Rattle.std.proofs.lemmas.Bool.{cases_lt, cond-false, eq-eqb, eqb-true, false≢true, ne_eqb, or_left}
-use Rattle.std.proofs.lemmas.Bool.{or_parts, or_right}
+use Rattle.std.proofs.lemmas.Bool.{cases_lt, cond-false, eqb-true, ne_eqb}
 use Rattle.std.proofs.lemmas.List.{get_or_past, length-map, length-replicate, map-append}
-use Rattle.std.proofs.lemmas.List.Elements.{All-nil, All-cons, All-head, All-tail, All-append, All-replicate}
+use Rattle.std.proofs.lemmas.List.Elements.{All-nil, All-cons, All-append, All-replicate}
 use Rattle.std.proofs.lemmas.List.Elements.{All-filter, filter-append}
-use Rattle.std.proofs.lemmas.List.Folds.{list_any-append, sum_by-replicate}
+use Rattle.std.proofs.lemmas.List.Folds.{sum_by-replicate}
 use Rattle.std.proofs.lemmas.List.FromFn.{get_or-map-range_with_len, length-map-range_with_len}
 use Rattle.std.proofs.lemmas.List.Sums.{sum_by-append, sum_by-cons}
 use Rattle.std.proofs.lemmas.Grind.{flat_map-append}
 use Rattle.std.proofs.lemmas.Option.{slice_get-map}
 use Rattle.tty_calls.specs.Plain.{hangs_up}
-use Rattle.tty_calls.specs.Sessions.{PlainPhase, PlainScript, scripts_on}
+use Rattle.tty_calls.specs.Sessions.{PlainPhase, scripts_on}
 use Rattle.session_text.specs.Refusals.{lines_in}
 use Rattle.session_text.proofs.TextAsks.{text_asks}
-use Rattle.journal_check.proofs.NameLemmas.{same_name}
-use Rattle.one_thread.proofs.NameLemmas.{HaveOwnNames, eq_name, has_name, own_names}
+use Rattle.play_base.proofs.NameLemmas.{eq_name}
 use Rattle.passed_calls.specs.declared.placed.PlacedCall.{PlacedCall}
 use Rattle.passed_calls.specs.Blocks.{Block, bare, blocks_on, names_on}
 use Rattle.passed_calls.specs.Derived.{BlockPhase, Passing, blocks_of}
 use Rattle.passed_calls.specs.Scripts.{CallerScript, plain, further, block_of, calls_named, numbered_call}
-use Rattle.passed_calls.specs.Within.{IsBlockPhaseWithin}
 use Rattle.passed_calls.proofs.Mixed.{bare_names, map_phases}
 use Rattle.passed_calls.proofs.Names.{names_by_names}
 use Rattle.further_text.specs.Faults.{Read}
@@ -44,6 +41,7 @@ use Rattle.modem_text.specs.Within.{block_phase_of, IsModemSessionWithin}
 use Rattle.modem_text.proofs.Left.{session_left}
 use Rattle.modem_steps.specs.Derived.{carrier_on, modem_call_at, passings_from, passings_on}
 use Rattle.modem_steps.specs.Derived.{plain_call, scripts_over as modem_scripts}
+use Rattle.modem_steps.proofs.Silent.{silent_over}
 use Rattle.further_asked.specs.Asked.{AskedPhase, AskNoMore, AsksWithin, any_asks, asked_at, asked_on}
 use Rattle.further_asked.specs.Asked.{asks_of, block_phases, call_asks, scripts_over}
 use Rattle.further_asked.specs.Modem.{asked_phase_of, asked_phases, carrier_asks}
@@ -59,12 +57,67 @@ one_item (Ok item) = omega arith
 one_item (Err reason) = omega arith
 
 few_said : (arguments : List (List ℕ)) → Each (λ v. length (items_by (Some v) arguments) ≤ 1) all_verbs
-few_said arguments =
-    (omega arith, (one_item _, (one_item _, (one_item _, (one_item _, (one_item _, (one_item _, (one_item _, (one_item _, (one_item _, (one_item _, (one_item _, (one_item _, tt)))))))))))))
+few_said arguments = (
+  omega arith,
+  (
+    one_item _,
+    (
+      one_item _,
+      (
+        one_item _,
+        (
+          one_item _,
+          (
+            one_item _,
+            (
+              one_item _,
+              (
+                one_item _,
+                (
+                  one_item _,
+                  (
+                    one_item _,
+                    (one_item _, (one_item _, (one_item _, tt))),
+                  ),
+                ),
+              ),
+            ),
+          ),
+        ),
+      ),
+    ),
+  ),
+)
 
 verbs_long : Each (λ v. 2 ≤ length (verb_text v)) all_verbs
-verbs_long =
-    (omega arith, (omega arith, (omega arith, (omega arith, (omega arith, (omega arith, (omega arith, (omega arith, (omega arith, (omega arith, (omega arith, (omega arith, (omega arith, tt)))))))))))))
+verbs_long = (
+  omega arith,
+  (
+    omega arith,
+    (
+      omega arith,
+      (
+        omega arith,
+        (
+          omega arith,
+          (
+            omega arith,
+            (
+              omega arith,
+              (
+                omega arith,
+                (
+                  omega arith,
+                  (omega arith, (omega arith, (omega arith, (omega arith, tt)))),
+                ),
+              ),
+            ),
+          ),
+        ),
+      ),
+    ),
+  ),
+)
 
 -- what lines say is a call or an item of a modem block
 one_of_both : (i : ModemItem) → length (call_in i) + length (pin_in i) ≤ 1
@@ -137,12 +190,14 @@ carriers_ask : (phase : ModemPhase) (p a n : ℕ)
 carriers_ask phase p a zero = omega arith
 carriers_ask phase p a (suc n) =
     ask_either (a == p) phase a p (filter (is_on p) (carriers phase (a + 1) n))
-    (λ e. (eqb-true a p e, passed_by phase p (a + 1) n (omega (arith, eqb-true a p e)))) (carriers_ask phase p (a + 1) n)
+    (λ e. (eqb-true a p e, passed_by phase p (a + 1) n (omega (arith, eqb-true a p e))))
+    (carriers_ask phase p (a + 1) n)
 
 kept_few : (p : ℕ) (pins : List PinItem)
     → length (filter (λ (i : PinItem). i.port == p) pins) ≤ length pins
 kept_few p [] = omega arith
-kept_few p (i ∷ pins) = either (i.port == p) i (filter (λ (x : PinItem). x.port == p) pins) (length pins) (kept_few p pins)
+kept_few p (i ∷ pins) = either (i.port == p) i (filter (λ (x : PinItem). x.port == p) pins) (length pins)
+    (kept_few p pins)
   where
     either : (t : Bool) (x : PinItem) (xs : List PinItem) (n : ℕ)
         → length xs ≤ n
@@ -203,7 +258,8 @@ asks_by text session p h =
       ap (λ (cs : List OwnCall). length cs) h.calls,
       ap (λ (ps : List PinStep). length ps) h.pins,
       both_few items,
-      left_asks verb_text all_verbs items_by items_said refl (λ word arguments. refl) (λ arguments. omega arith) few_said verbs_long
+      left_asks verb_text all_verbs items_by items_said refl (λ word arguments. refl) (λ arguments. omega arith)
+          few_said verbs_long
           text,
     )
 
@@ -285,7 +341,8 @@ all_names ports p (phase ∷ phases) =
     (all_names ports p phases)
     ∙ sym (names_append p (phase_blocks (λ q. 0) ports phase) (flat_map (phase_blocks (λ q. 0) ports) phases))
 
-same_names : (p : ℕ) (xs ys : List Block) → names (blocks_on p xs) ≡ names (blocks_on p ys) → names_on p xs ≡ names_on p ys
+same_names : (p : ℕ) (xs ys : List Block) → names (blocks_on p xs) ≡ names (blocks_on p ys) → names_on p xs
+    ≡ names_on p ys
 same_names p xs ys h =
     names_by_names (map bare (blocks_on p xs)) (map bare (blocks_on p ys))
     (bare_names (blocks_on p xs) ∙ h ∙ sym (bare_names (blocks_on p ys)))
@@ -296,134 +353,6 @@ names_are session p =
     ap (λ (bs : List BlockPhase). names_on p (blocks_of bs)) (asked_blocks_are session.ports session.phases)
     ∙ same_names p (blocks_of (map (block_phase_of session.ports) session.phases)) (blocks_in session)
     (all_names session.ports p session.phases)
-
--- ---- `carrier` is no other caller
-
-other_script : (s : PlainScript) (ss : List PlainScript)
-    → has_name ss s.name ≡ false
-    → has_name ss carrier_name ≡ true
-    → (b : Bool)
-    → bytes_eq s.name carrier_name ≡ b
-    → b ≡ false
-other_script s ss none there true e = absurd (false≢true
-    (sym none ∙ ap (λ (n : List ℕ). has_name ss n) (eq_name s.name carrier_name e) ∙ there))
-other_script s ss none there false e = refl
-
-none_of_both : (a b : Bool) → a ≡ false → b ≡ false → (a || b) ≡ false
-none_of_both true b h k = absurd (false≢true (sym h))
-none_of_both false b h k = k
-
-any_behind : (xs ys : List PlainScript) → has_name ys carrier_name ≡ true → has_name (xs ++ ys) carrier_name ≡ true
-any_behind xs ys there =
-    list_any-append (λ (s : PlainScript). bytes_eq s.name carrier_name) xs ys
-    ∙ or_right (has_name xs carrier_name) (has_name ys carrier_name) there
-
-own_apart : (xs ys : List PlainScript)
-    → HaveOwnNames (xs ++ ys)
-    → has_name ys carrier_name ≡ true
-    → has_name xs carrier_name ≡ false
-own_apart [] ys h there = refl
-own_apart (s ∷ xs) ys h there =
-    none_of_both (bytes_eq s.name carrier_name) (has_name xs carrier_name)
-    (other_script s (xs ++ ys) h.0 (any_behind xs ys there) (bytes_eq s.name carrier_name) refl)
-    (own_apart xs ys h.1 there)
-
-carrier_there : (f : ℕ → ℕ) (p a n : ℕ)
-    → a ≤ p
-    → p < a + n
-    → has_name (map bare (blocks_on p (map (λ q. carrier_block (f q) q) (range_with_len a n)))) carrier_name ≡ true
-carrier_there f p a zero low high = absurd (omega (arith, low, high))
-carrier_there f p a (suc n) low high = either (a == p) refl
-    (blocks_on p (map (λ q. carrier_block (f q) q) (range_with_len (a + 1) n)))
-    (λ other. carrier_there f p (a + 1) n (omega (arith, low, other)) (omega (arith, high)))
-  where
-    either : (t : Bool)
-        → (a == p) ≡ t
-        → (bs : List Block)
-        → ((a ≡ p → ⊥) → has_name (map bare bs) carrier_name ≡ true)
-        → has_name (map bare (cond t (carrier_block (f a) a ∷ bs) bs)) carrier_name ≡ true
-    either true e bs h = or_left (bytes_eq carrier_name carrier_name) (has_name (map bare bs) carrier_name)
-        (same_name carrier_name)
-    either false e bs h = h (λ same. absurd (false≢true (sym e ∙ eq-eqb a p same)))
-
--- then it has no calls that are another's
-silent : (p : ℕ) (ss : List (CallerScript ModemCall))
-    → has_name (map bare (blocks_on p (map block_of ss))) carrier_name ≡ false
-    → calls_named (Some carrier_name) (filter (λ s. s.port == p) ss) ≡ []
-silent p [] h = refl
-silent p (s ∷ ss) h =
-    either (s.port == p) (blocks_on p (map block_of ss)) (filter (λ x. x.port == p) ss) h (silent p ss)
-  where
-    own_none : (b : Bool) (calls more : List ModemCall)
-        → b ≡ false
-        → more ≡ []
-        → (if b then calls else []) ++ more ≡ []
-    own_none true calls more e h = absurd (false≢true (sym e))
-    own_none false calls more e h = h
-
-    either : (t : Bool) (bs : List Block) (xs : List (CallerScript ModemCall))
-        → has_name (map bare (cond t (block_of s ∷ bs) bs)) carrier_name ≡ false
-        → (has_name (map bare bs) carrier_name ≡ false → calls_named (Some carrier_name) xs ≡ [])
-        → calls_named (Some carrier_name) (cond t (s ∷ xs) xs) ≡ []
-    either true bs xs none h =
-        let parts = or_parts (bytes_eq s.name carrier_name) (has_name (map bare bs) carrier_name) none in
-        own_none (bytes_eq s.name carrier_name) s.calls (calls_named (Some carrier_name) xs) parts.0 (h parts.1)
-    either false bs xs none h = h none
-
-all_front : {X : Type 0} (P : X → Type 0) (xs ys : List X) → All P (xs ++ ys) → All P xs
-all_front P [] ys h = All-nil P
-all_front P (x ∷ xs) ys h =
-    All-cons P x xs (All-head P x (xs ++ ys) h) (all_front P xs ys (All-tail P x (xs ++ ys) h))
-
-past_ports : (ports p : ℕ) (ss : List (CallerScript ModemCall))
-    → ports ≤ p
-    → All (λ (b : Block). b.port < ports) (map block_of ss)
-    → filter (λ s. s.port == p) ss ≡ []
-past_ports ports p [] past h = refl
-past_ports ports p (s ∷ ss) past h =
-    cond-false (s.port == p) (s ∷ filter (λ x. x.port == p) ss) (filter (λ x. x.port == p) ss)
-    (ne_eqb s.port p
-    (λ e. omega (arith, past, e, All-head (λ (b : Block). b.port < ports) (block_of s) (map block_of ss) h)))
-    ∙ past_ports ports p ss past (All-tail (λ (b : Block). b.port < ports) (block_of s) (map block_of ss) h)
-
-module _ (ports p : ℕ) (phase : ModemPhase) (within : IsBlockPhaseWithin ports (block_phase_of ports phase)) where
-  abbrev own_blocks : List Block
-  own_blocks = map block_of phase.callers
-
-  abbrev last_blocks : List Block
-  last_blocks = map (λ q. carrier_block (length (pins_on q phase)) q) (range_with_len 0 ports)
-
-  on_port : p < ports → has_name (map bare (blocks_on p own_blocks)) carrier_name ≡ false
-  on_port below =
-      let all = blocks_on p (own_blocks ++ last_blocks) in
-      let parted : map bare all ≡ map bare (blocks_on p own_blocks) ++ map bare (blocks_on p last_blocks) =
-      ap (λ (bs : List Block). map bare bs) (filter-append (λ (b : Block). b.port == p) own_blocks last_blocks)
-      ∙ map-append bare (blocks_on p own_blocks) (blocks_on p last_blocks) in
-      own_apart (map bare (blocks_on p own_blocks)) (map bare (blocks_on p last_blocks))
-      (subst HaveOwnNames parted (own_names (map bare all) (within.own_names p ∙ sym (bare_names all))))
-      (carrier_there (λ q. length (pins_on q phase)) p 0 ports (omega arith) (omega (arith, below)))
-
-  silent_in : calls_named (Some carrier_name) (filter (λ s. s.port == p) phase.callers) ≡ []
-  silent_in =
-      elim (cases_lt p ports) [
-        | inl below ↦ silent p phase.callers (on_port below)
-        | inr past ↦ ap (λ (ss : List (CallerScript ModemCall)). calls_named (Some carrier_name) ss)
-            (past_ports ports p phase.callers past
-            (all_front (λ (b : Block). b.port < ports) own_blocks last_blocks within.blocks))
-      ]
-
-silent_over : (ports p : ℕ) (phases : List ModemPhase)
-    → All (IsBlockPhaseWithin ports) (map (block_phase_of ports) phases)
-    → calls_named (Some carrier_name) (modem_scripts p phases) ≡ []
-silent_over ports p [] h = refl
-silent_over ports p (phase ∷ phases) h =
-    flat_map-append (λ (s : CallerScript ModemCall). if bytes_eq s.name carrier_name then s.calls else [])
-    (filter (λ s. s.port == p) phase.callers) (modem_scripts p phases)
-    ∙ ap (λ (cs : List ModemCall). cs ++ calls_named (Some carrier_name) (modem_scripts p phases))
-    (silent_in ports p phase
-    (All-head (IsBlockPhaseWithin ports) (block_phase_of ports phase) (map (block_phase_of ports) phases) h))
-    ∙ silent_over ports p phases
-    (All-tail (IsBlockPhaseWithin ports) (block_phase_of ports phase) (map (block_phase_of ports) phases) h)
 
 -- ---- what a log passes
 
@@ -438,7 +367,8 @@ carrier_calls phase name p a (suc n) other =
         → calls_named (Some name) xs ≡ []
         → calls_named (Some name) (cond t (carrier_asks phase a ∷ xs) xs) ≡ []
     either true xs h =
-        ap (λ (b : Bool). (if b then replicate (length (pins_on a phase)) 3 else []) ++ calls_named (Some name) xs) other
+        ap (λ (b : Bool). (if b then replicate (length (pins_on a phase)) 3 else []) ++ calls_named (Some name) xs)
+        other
         ∙ h
     either false xs h = h
 

@@ -14,9 +14,9 @@ use Rattle.tty_calls.specs.Limits.{character_count}
 use Rattle.tty_calls.specs.Sessions.{PlainScript, PlainPhase, PlainSession, line_on}
 use Rattle.tty_calls.specs.Sessions.{number_in, scripts_over as plain_scripts_over}
 use Rattle.session_text.specs.Asked.{asked_of}
-use Rattle.journal_check.proofs.NameLemmas.{get_append, get_past, same_name}
-use Rattle.journal_check.proofs.TurnLemmas.{at_number}
-use Rattle.one_thread.proofs.NameLemmas.{has_name, script_has_number}
+use Rattle.legal_runs.proofs.NameLemmas.{get_append, get_past, same_name}
+use Rattle.legal_runs.proofs.ScriptLemmas.{at_number}
+use Rattle.play_base.proofs.NameLemmas.{has_name, script_has_number}
 use Rattle.passed_calls.specs.Blocks.{Block, bare, blocks_on, names_on, number_on, steps_under}
 use Rattle.passed_calls.specs.Derived.{Passing, Passed, BlockPhase, blocks_of, by_caller, calls_at, calls_for}
 use Rattle.passed_calls.specs.Derived.{passed_script, passed_scripts, passed_phases_after, passed_phases}
@@ -294,7 +294,8 @@ module _ (phases : List AskedPhase) (given : Passed) (p : ℕ) (within : ArePass
   asks_for c step n is =
       let here : asked_at p phases c step ≡ Some n =
       ap (λ (bs : List Block). numbered_call (names_on p bs) (scripts_over p phases) c step) (flat_blocks phases)
-      ∙ (ap (λ (ss : List Script). numbered_call (names_on p (blocks_all all_scripts)) ss c step) (scripts_flat p phases)
+      ∙ (ap (λ (ss : List Script). numbered_call (names_on p (blocks_all all_scripts)) ss c step)
+      (scripts_flat p phases)
       ∙ is) in
       few_ask n (calls_at (by_caller c (given p)) step) (within.single p c step)
       (subst (λ (o : Option ℕ). All (AsksWithin o) (calls_at (by_caller c (given p)) step)) here

@@ -26,7 +26,8 @@ module _ {C : Type 0} where
       (let first : Block = record { port = s.port; name = s.name; steps = length-map s.calls asks i } in first)
       ∷ asked_blocks ss i
 
-  kept_either : (t : Bool) (s : CallerScript (AnyCall C)) (xs : List (CallerScript ℕ)) (ss : List (CallerScript (AnyCall C)))
+  kept_either : (t : Bool) (s : CallerScript (AnyCall C)) (xs : List (CallerScript ℕ))
+      (ss : List (CallerScript (AnyCall C)))
       → xs ≡ map asked ss
       → cond t (asked s ∷ xs) xs ≡ map asked (cond t (s ∷ ss) ss)
   kept_either true s xs ss h = ap (λ (ys : List (CallerScript ℕ)). asked s ∷ ys) h
@@ -76,9 +77,11 @@ any_three (plain call) = omega arith
 any_three (further call) = omega arith
 
 pub scripts_three : {C : Type 0} (ss : List (CallerScript (AnyCall C))) → All AsksThree (map asks_of ss)
-scripts_three ss = All-map AsksThree asks_of ss (λ k d h. All-map (λ n. 3 ≤ n) any_asks _ (λ j call within. any_three _))
+scripts_three ss = All-map AsksThree asks_of ss (λ k d h. All-map (λ n. 3 ≤ n) any_asks _
+    (λ j call within. any_three _))
 
-named_three : (o : Option (List ℕ)) (ss : List (CallerScript ℕ)) → All AsksThree ss → All (λ n. 3 ≤ n) (calls_named o ss)
+named_three : (o : Option (List ℕ)) (ss : List (CallerScript ℕ)) → All AsksThree ss
+    → All (λ n. 3 ≤ n) (calls_named o ss)
 named_three None ss h = All-nil (λ n. 3 ≤ n)
 named_three (Some name) [] h = All-nil (λ n. 3 ≤ n)
 named_three (Some name) (s ∷ ss) h =

@@ -122,7 +122,8 @@ line_by (Some v) said word line left none own short = (let long = own v refl in 
 module _ {V X : Type 0} (verb_text : V → List ℕ) (all_verbs : List V) (by_verb : Option V → List (List ℕ) → List X)
     (said : List (List ℕ) → List X) (nothing : said [] ≡ [])
     (by_first : (word : List ℕ) (arguments : List (List ℕ))
-    → said (word ∷ arguments) ≡ (if first_is 35 word then [] else by_verb (choice_of verb_text all_verbs word) arguments))
+    → said (word ∷ arguments) ≡ (if first_is 35 word then [] else by_verb (choice_of verb_text all_verbs word)
+    arguments))
     (none : (arguments : List (List ℕ)) → length (by_verb None arguments) ≤ 0)
     (few : (arguments : List (List ℕ)) → Each (λ v. length (by_verb (Some v) arguments) ≤ 1) all_verbs)
     (long : Each (λ v. 2 ≤ length (verb_text v)) all_verbs) where
@@ -145,7 +146,8 @@ module _ {V X : Type 0} (verb_text : V → List ℕ) (all_verbs : List V) (by_ve
             (unless_comment (first_is 35 word) (by_verb None arguments) 0 (none arguments))
             (λ v e. (
               unless_comment (first_is 35 word) (by_verb (Some v) arguments) 1
-                  (choice_has (λ u. length (by_verb (Some u) arguments) ≤ 1) verb_text all_verbs word v (few arguments) e),
+                  (choice_has (λ u. length (by_verb (Some u) arguments) ≤ 1) verb_text all_verbs word v (few arguments)
+                  e),
               (let same = ap (λ (w : List ℕ). length w) (choice_is verb_text all_verbs word v e) in
                   omega (arith, same, choice_has (λ u. 2 ≤ length (verb_text u)) verb_text all_verbs word v long e)),
             )) h.0,

@@ -1,10 +1,9 @@
 -- Lines of calls, one behind the other.
-use Rattle.std.proofs.Common.{◌≡◌, ℕ, suc, ◌+◌, ◌-◌, ◌<◌, zero, ◌≤◌, nat_lt, Bool, true, false, cond}
-use Rattle.std.proofs.Common.{List, [], ◌∷◌, ◌++◌, Option, None, Some, length, map, drop, take}
+use Rattle.std.proofs.Common.{◌≡◌, ℕ, suc, ◌+◌, ◌-◌, ◌<◌, zero, ◌≤◌, nat_lt, Bool, true, false}
+use Rattle.std.proofs.Common.{List, [], ◌∷◌, ◌++◌, Option, Some, length, map, drop, take}
 use Rattle.std.proofs.Common.{get_or, slice_get, if◌then◌else◌, refl, sym, ◌∙◌, ap, subst, arith}
-use Rattle.std.proofs.Common.{append_assoc, append-nil, drop-cons, add-one, length-append, ltb-true}
-use Rattle.std.specs.Prelude.{codes, decimal, position}
-use Rattle.std.specs.List.{position_or_len}
+use Rattle.std.proofs.Common.{append_assoc, append-nil, drop-cons, add-one, length-append}
+use Rattle.std.specs.Prelude.{codes, decimal}
 use Rattle.std.proofs.lemmas.List.{drop_all, take_all, drop-drop, map-append, length-map, length-take-le, length-drop}
 use Rattle.std.proofs.lemmas.Bool.{ltb-false}
 use Rattle.std.proofs.lemmas.Option.{get_or_from_slice_get, slice_get_within}
@@ -26,16 +25,6 @@ next_item xs i x h at =
 
 pub next_got : {A : Type 0} (xs : List A) (i : ℕ) (x : A) → slice_get xs i ≡ Some x → drop i xs ≡ x ∷ drop (i + 1) xs
 next_got xs i x at = next_item xs i x (slice_get_within xs i x at) (sym (get_or_from_slice_get xs i x x at))
-
-some_then : (b : Bool) (n at : ℕ) → cond b (Some n) None ≡ Some at → (b ≡ true) × (n ≡ at)
-some_then true n at h = (refl, cc)
-some_then false n at h = cc
-
-pub position_within : {X : Type 0} (p : X → Bool) (xs : List X) (n : ℕ) → position p xs ≡ Some n → n < length xs
-position_within p xs n h =
-    let place = position_or_len p xs in
-    let found = some_then (nat_lt place (length xs)) place n h in
-    subst (λ (m : ℕ). m < length xs) found.1 (ltb-true _ _ found.0)
 
 got_bytes : (xs : List (Contents ℕ)) (i : ℕ) (x : Contents ℕ)
     → i < length xs

@@ -9,7 +9,7 @@ use Rattle.std.proofs.lemmas.List.{length-set, length-replicate, get_or-map, map
 use Rattle.std.proofs.lemmas.List.{get_or-set_same, get_or-set_other, map-append}
 use Rattle.tty_base.specs.Contents.{Contents}
 use Rattle.passed_calls.specs.declared.logs.Logged.{Logged}
-use Rattle.further_report.specs.Calls.{Told, texts_to}
+use Rattle.further_report.specs.Calls.{ToldAnswer, texts_to}
 use Rattle.further_report.specs.Printing.{bytes_of, answers_to, noted, all_noted}
 use Rattle.further_report.proofs.Lines.{next_item}
 
@@ -19,13 +19,13 @@ same_is n = grind (arith, nat_tests)
 other_is : (n m : ℕ) → n ≢ m → (n == m) ≡ false
 other_is n m h = grind (arith, nat_tests)
 
-pub noted_length : (answers : List (List (List ℕ))) (told : List Told)
+pub noted_length : (answers : List (List (List ℕ))) (told : List ToldAnswer)
     → length (all_noted answers told) ≡ length answers
 noted_length answers [] = refl
 noted_length answers (t ∷ told) =
     noted_length (noted answers t) told ∙ length-set answers t.caller (answers_to answers t.caller ++ t.text ∷ [])
 
-noted_then : (answers : List (List (List ℕ))) (c : ℕ) (t : Told) → c < length answers
+noted_then : (answers : List (List (List ℕ))) (c : ℕ) (t : ToldAnswer) → c < length answers
     → answers_to (noted answers t) c ≡ answers_to answers c ++ (if t.caller == c then t.text ∷ [] else [])
 noted_then answers c t lt = elim (cases_eq t.caller c) [
   | inl same ↦
@@ -43,7 +43,7 @@ noted_then answers c t lt = elim (cases_eq t.caller c) [
       ∙ ap (λ (b : Bool). answers_to answers c ++ (if b then t.text ∷ [] else [])) (sym (other_is t.caller c other))
 ]
 
-noted_after : (answers : List (List (List ℕ))) (c : ℕ) (told : List Told)
+noted_after : (answers : List (List (List ℕ))) (c : ℕ) (told : List ToldAnswer)
     → c < length answers
     → answers_to (all_noted answers told) c ≡ answers_to answers c ++ texts_to c told
 noted_after answers c [] lt = sym (append-nil (answers_to answers c))
@@ -61,7 +61,7 @@ none_at (suc n) zero = refl
 none_at (suc n) (suc c) = none_at n c
 
 -- what each of so many callers was answered
-pub answers_are : (callers c : ℕ) (told : List Told)
+pub answers_are : (callers c : ℕ) (told : List ToldAnswer)
     → c < callers
     → answers_to (all_noted (replicate callers []) told) c ≡ texts_to c told
 answers_are callers c told lt =
@@ -69,7 +69,7 @@ answers_are callers c told lt =
     noted_after none c told (subst (λ (m : ℕ). c < m) (sym (length-replicate callers [])) lt)
     ∙ ap (λ (l : List (List ℕ)). l ++ texts_to c told) (none_at callers c)
 
-pub all_noted_both : (answers : List (List (List ℕ))) (xs ys : List Told)
+pub all_noted_both : (answers : List (List (List ℕ))) (xs ys : List ToldAnswer)
     → all_noted answers (xs ++ ys) ≡ all_noted (all_noted answers xs) ys
 all_noted_both answers [] ys = refl
 all_noted_both answers (x ∷ xs) ys = all_noted_both (noted answers x) xs ys
@@ -94,11 +94,11 @@ noted_more answers c text old new lt is more =
     ∙ ap (λ (l : List (List ℕ)). l ++ text.items ∷ []) here))
 
 -- what events of a port answer, in order
-abbrev told_from : {E : Type 0} → (E → List Told) → (p : ℕ) → List (Logged E) → List Told
+abbrev told_from : {E : Type 0} → (E → List ToldAnswer) → (p : ℕ) → List (Logged E) → List ToldAnswer
 told_from told p log = flat_map (λ l. if l.port == p then told l.event else []) log
 
 -- one event more is noted
-pub logged_more : {E : Type 0} (told : E → List Told) (p : ℕ) (log : List (Logged E)) (i : ℕ) (x : Logged E)
+pub logged_more : {E : Type 0} (told : E → List ToldAnswer) (p : ℕ) (log : List (Logged E)) (i : ℕ) (x : Logged E)
     → i < length log
     → x ≡ get_or log i x
     → (old new all : List (List (List ℕ)))

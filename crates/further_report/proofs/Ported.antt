@@ -16,7 +16,7 @@ use Rattle.job_text.specs.declared.logs.JobEvent.{JobEvent as KeptJob}
 use Rattle.job_text.specs.declared.sessions.PortProc.{PortProc}
 use Rattle.job_text.specs.Events.{event_of as job_event, logged_of as job_logged}
 use Rattle.job_text.specs.Sessions.{session_with as jobs_session}
-use Rattle.further_report.specs.Calls.{Told, calls_text, texts_to}
+use Rattle.further_report.specs.Calls.{ToldAnswer, calls_text, texts_to}
 use Rattle.further_report.specs.Jobs.{own_verb as job_verb, port_calls as job_calls}
 use Rattle.further_report.specs.Jobs.{told_in as job_told, told_on as job_told_on}
 use Rattle.further_report.specs.Modem.{own_verb as modem_verb, port_calls as modem_calls}
@@ -28,7 +28,7 @@ use Rattle.further_report.proofs.Naming.{job_names, modem_names}
 use Rattle.further_report.proofs.Noting.{answers_are, noted_length}
 use Rattle.further_report.proofs.Standing.{all_scripts}
 
-pub has_answers : (answers : List (Vec (Contents ℕ) Global)) (callers count : ℕ) (told : List Told)
+pub has_answers : (answers : List (Vec (Contents ℕ) Global)) (callers count : ℕ) (told : List ToldAnswer)
     → callers ≡ count
     → map (λ (texts : Vec (Contents ℕ) Global). bytes_of texts.items) answers ≡ all_noted (replicate callers []) told
     → length answers ≡ count
@@ -40,7 +40,7 @@ has_answers answers callers count told many is =
     ∙ many
 
 port_told : {C : Type 0} (verb : C → List ℕ) (p callers : ℕ) (names named : List (List ℕ))
-    (answers : List (List (List ℕ))) (told : List Told) (scripts all : List (CallerScript (AnyCall C)))
+    (answers : List (List (List ℕ))) (told : List ToldAnswer) (scripts all : List (CallerScript (AnyCall C)))
     → names ≡ named
     → callers ≡ length names
     → answers ≡ all_noted (replicate callers []) told
@@ -60,7 +60,8 @@ modem_log : (p : ℕ) (log : List (Logged KeptModem))
     ≡ modem_told_on p (map modem_logged log)
 modem_log p [] = refl
 modem_log p (l ∷ ls) =
-    ap (λ (told : List Told). (if l.port == p then modem_told (modem_event l.event) else []) ++ told) (modem_log p ls)
+    ap (λ (told : List ToldAnswer). (if l.port == p then modem_told (modem_event l.event) else []) ++ told)
+    (modem_log p ls)
 
 pub modem_port : (session : PlainSession) (parts : List ModemPart) (log : List (Logged KeptModem)) (p callers : ℕ)
     (names : List (List ℕ)) (answers : List (List (List ℕ)))
@@ -83,7 +84,7 @@ job_log : (p : ℕ) (log : List (Logged KeptJob))
     → flat_map (λ l. if l.port == p then job_told (job_event l.event) else []) log ≡ job_told_on p (map job_logged log)
 job_log p [] = refl
 job_log p (l ∷ ls) =
-    ap (λ (told : List Told). (if l.port == p then job_told (job_event l.event) else []) ++ told) (job_log p ls)
+    ap (λ (told : List ToldAnswer). (if l.port == p then job_told (job_event l.event) else []) ++ told) (job_log p ls)
 
 pub job_port : (session : PlainSession) (procs : List PortProc) (parts : List (List (PlacedCall JobOwn)))
     (log : List (Logged KeptJob)) (p callers : ℕ) (names : List (List ℕ)) (answers : List (List (List ℕ)))

@@ -83,26 +83,6 @@ signals_told ports p procs log lt =
 
 -- ---- loops over them
 
-procs_if : (b : Bool) (q : PortProc) (qs : List PortProc)
-    → map (λ r. r.proc) (cond b (q ∷ qs) qs) ≡ (if b then q.proc ∷ [] else []) ++ map (λ r. r.proc) qs
-procs_if true q qs = refl
-procs_if false q qs = refl
-
-pub proc_more : (found new all : List Proc) (p i : ℕ) (procs : List PortProc) (x : PortProc)
-    → i < length procs
-    → x ≡ get_or procs i x
-    → new ≡ found ++ (if x.port == p then x.proc ∷ [] else [])
-    → found ++ procs_on p (drop i procs) ≡ all
-    → new ++ procs_on p (drop (i + 1) procs) ≡ all
-proc_more found new all p i procs x lt at put left =
-    let one : List Proc = if x.port == p then x.proc ∷ [] else [] in
-    let rest : List PortProc = drop (i + 1) procs in
-    ap (λ (l : List Proc). l ++ procs_on p rest) put
-    ∙ append_assoc found one (procs_on p rest)
-    ∙ ap (λ (l : List Proc). found ++ l) (sym (procs_if (x.port == p) x (filter (λ r. r.port == p) rest)))
-    ∙ ap (λ (qs : List PortProc). found ++ procs_on p qs) (sym (next_item procs i x lt at))
-    ∙ left
-
 pub signal_more : (text new first : List ℕ) (p i : ℕ) (procs : List Proc) (log : List (Logged KeptJob))
     (x : Logged KeptJob)
     → i < length log

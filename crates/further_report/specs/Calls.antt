@@ -7,12 +7,12 @@ use Rattle.session_print.specs.Words.{verb_of}
 use Rattle.passed_calls.specs.Scripts.{AnyCall, plain, further, CallerScript}
 
 -- what a caller was answered, as a report says it
-pub record Told : Type 0 where
+pub record ToldAnswer : Type 0 where
   pub caller : ℕ
   pub text : List ℕ
 
 -- what one caller was answered, in order
-abbrev pub texts_to : (caller : ℕ) → List Told → List (List ℕ)
+abbrev pub texts_to : (caller : ℕ) → List ToldAnswer → List (List ℕ)
 texts_to c told = flat_map (λ t. if t.caller == c then t.text ∷ [] else []) told
 
 -- what a call is written as
@@ -62,7 +62,7 @@ scripts_lines verb p names answers before (s ∷ ss) =
     ++ scripts_lines verb p names answers (before ++ s ∷ []) ss
 
 -- the lines of a port's calls, script by script, by the names of its callers and what they were answered
-abbrev pub calls_text : {C : Type 0} → (C → List ℕ) → (p : ℕ) → (names : List (List ℕ)) → List Told
+abbrev pub calls_text : {C : Type 0} → (C → List ℕ) → (p : ℕ) → (names : List (List ℕ)) → List ToldAnswer
     → List (CallerScript (AnyCall C)) → List ℕ
 calls_text verb p names told scripts =
     scripts_lines verb p names (λ c. texts_to c told) [] (filter (λ s. s.port == p) scripts)

@@ -15,7 +15,7 @@ use Rattle.job_text.specs.declared.calls.OwnCall.{OwnCall}
 use Rattle.job_text.specs.declared.calls.OwnCall.TheVariants as call
 use Rattle.job_text.specs.Sessions.{JobCall, JobsSession, blocks_in}
 use Rattle.job_text.specs.Events.{JobEvent, own, passed, passed_down, sent, JobLog}
-use Rattle.further_report.specs.Calls.{Told, calls_text}
+use Rattle.further_report.specs.Calls.{ToldAnswer, calls_text}
 use Rattle.further_report.specs.Ports.{without_phases}
 
 -- what a call of job control is written as
@@ -27,14 +27,14 @@ own_verb (call.Spgrp h group) = codes "spgrp"
 own_verb call.Exit = codes "exit"
 
 -- what an event answers
-abbrev pub told_in : JobEvent → List Told
+abbrev pub told_in : JobEvent → List ToldAnswer
 told_in (own c step answer) = record { caller = c; text = own_answer_text answer } ∷ []
 told_in (passed c step answer) = record { caller = c; text = answer_text answer } ∷ []
 told_in (passed_down c h) = []
 told_in (sent signal target) = []
 
 -- what was answered on a port, in order
-abbrev pub told_on : ℕ → JobLog → List Told
+abbrev pub told_on : ℕ → JobLog → List ToldAnswer
 told_on p log = flat_map (λ l. if l.port == p then told_in l.event else []) log
 
 abbrev pub scripts_in : JobsSession → List (CallerScript JobCall)

@@ -15,7 +15,7 @@ use Rattle.modem_text.specs.declared.verbs.ModemVerb.TheVariants as verb
 use Rattle.modem_text.specs.Verbs.{verb_text}
 use Rattle.modem_text.specs.Sessions.{ModemCall, ModemSession, blocks_in}
 use Rattle.modem_text.specs.Events.{ModemEvent, pin_set, own, passed, carrier_lost, ModemLog}
-use Rattle.further_report.specs.Calls.{Told, calls_text}
+use Rattle.further_report.specs.Calls.{ToldAnswer, calls_text}
 use Rattle.further_report.specs.Ports.{without_phases}
 
 -- what a call of modem lines is written as
@@ -29,18 +29,18 @@ own_verb (call.Getcar h) = verb_text verb.Getcar
 own_verb (call.Hupcl h on) = verb_text verb.Hupcl
 own_verb (call.Msr h) = verb_text verb.Msr
 
-abbrev pub told_as : (caller : ℕ) → PlainAnswer → List Told
+abbrev pub told_as : (caller : ℕ) → PlainAnswer → List ToldAnswer
 told_as c answer = record { caller = c; text = answer_text answer } ∷ []
 
 -- what an event answers
-abbrev pub told_in : ModemEvent → List Told
+abbrev pub told_in : ModemEvent → List ToldAnswer
 told_in (pin_set pin up) = []
 told_in (own c step answer) = told_as c answer
 told_in (passed c step answer) = told_as c answer
 told_in (carrier_lost h) = []
 
 -- what was answered on a port, in order
-abbrev pub told_on : ℕ → ModemLog → List Told
+abbrev pub told_on : ℕ → ModemLog → List ToldAnswer
 told_on p log = flat_map (λ l. if l.port == p then told_in l.event else []) log
 
 abbrev pub scripts_in : ModemSession → List (CallerScript ModemCall)

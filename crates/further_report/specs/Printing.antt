@@ -8,7 +8,7 @@ use Rattle.passed_calls.specs.Scripts.{AnyCall, mixed_scripts, CallerScript}
 use Rattle.modem_text.specs.declared.items.OwnCall.{OwnCall}
 use Rattle.modem_text.specs.declared.sessions.ModemPart.{ModemPart}
 use Rattle.modem_text.specs.Sessions.{carrier_name}
-use Rattle.further_report.specs.Calls.{Told, verb_in, lines_from}
+use Rattle.further_report.specs.Calls.{ToldAnswer, verb_in, lines_from}
 
 -- what callers were answered, each by itself: of lists of bytes
 abbrev pub bytes_of : List (Contents ℕ) → List (List ℕ)
@@ -18,10 +18,10 @@ bytes_of texts = map (λ text. text.items) texts
 abbrev pub answers_to : List (List (List ℕ)) → (c : ℕ) → List (List ℕ)
 answers_to answers c = slice_index_or answers c []
 
-abbrev pub noted : List (List (List ℕ)) → Told → List (List (List ℕ))
+abbrev pub noted : List (List (List ℕ)) → ToldAnswer → List (List (List ℕ))
 noted answers t = slice_set answers t.caller (answers_to answers t.caller ++ t.text ∷ [])
 
-abbrev pub all_noted : List (List (List ℕ)) → List Told → List (List (List ℕ))
+abbrev pub all_noted : List (List (List ℕ)) → List ToldAnswer → List (List (List ℕ))
 all_noted answers [] = answers
 all_noted answers (t ∷ told) = all_noted (noted answers t) told
 

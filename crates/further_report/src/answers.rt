@@ -14,11 +14,11 @@ use tty_calls::Answer;
 /// An event that may answer a caller.
 pub(crate) trait Answering {
     ghost use Rattle.std.specs.Prelude.{◌≡◌, OnOk, List, map};
-    ghost use Rattle.further_report.specs.Calls.{Told};
+    ghost use Rattle.further_report.specs.Calls.{ToldAnswer};
     ghost use Rattle.further_report.specs.Printing.{all_noted, bytes_of};
 
     /// Whom it answers, and what.
-    ghost told: { Self → List Told };
+    ghost told: { Self → List ToldAnswer };
 
     /// Notes what it answers with the texts that callers were answered.
     fn note(&self, alloc: Global, answers: &mut [Vec<Bytes>]) -> Result<(), NoMemory>

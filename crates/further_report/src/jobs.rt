@@ -1,12 +1,12 @@
 //! The report of a session whose callers are processes.
 
-ghost use Rattle.std.specs.Prelude.{◌≡◌, ◌++◌, ◌<◌, ◌==◌, [], ◌∷◌, IfOk, OnOk, if◌then◌else◌};
-ghost use Rattle.std.specs.Prelude.{length, map, replicate, slice_index_or, string_bytes};
+ghost use Rattle.std.specs.Prelude.{◌≡◌, ◌++◌, ◌<◌, ◌==◌, [], IfOk, OnOk, if◌then◌else◌};
+ghost use Rattle.std.specs.Prelude.{length, map, replicate, string_bytes};
 ghost use Rattle.session_print.specs.Ends.{end_of};
 ghost use Rattle.tty_calls.specs.Sessions.{phase_of};
 ghost use Rattle.job_print.specs.Lines.{answer_text as text_of_answer};
 ghost use Rattle.job_text.specs.Events.{event_of, logged_of};
-ghost use Rattle.job_text.specs.Sessions.{bare_session_of, own_of, procs_on};
+ghost use Rattle.job_text.specs.Sessions.{bare_session_of, own_of};
 ghost use Rattle.further_report.specs.Jobs.{all_calls, all_signals, jobs_report_text, own_verb};
 ghost use Rattle.further_report.specs.Jobs.{port_calls, port_signals, signal_in, signals_on};
 ghost use Rattle.further_report.specs.Printing.{bytes_of, learned_over, noted, scripts_beside, scripts_text};
@@ -18,8 +18,7 @@ use crate::scripts::{Teller, first_steps};
 use crate::verbs::FurtherCall;
 use job_control::{JobAnswer, Proc};
 use job_print::{answer_text, put_signal};
-use job_text::{JobEvent, JobLog, JobsPart, JobsSession, OwnCall, PortProc};
-use passed_calls::PlacedCall;
+use job_text::{JobEvent, JobLog, JobsPart, JobsSession, OwnCall, own_in, procs_on};
 use std::alloc::Global;
 use tty_base::{Bytes, NoMemory};
 use tty_calls::{Names, Phase, PortEnd, PortRun};
@@ -151,20 +150,10 @@ fn put_phases(
 {
     let mut steps = first_steps(alloc, teller.names.len())?;
     for (place, phase) in phases.iter().enumerate() {
-        let placed = placed_in(parts, place);
+        let placed = own_in(parts, place);
         teller.put_scripts(alloc, text, &mut steps, phase.callers.as_slice(), placed)?;
     }
     Ok(())
-}
-
-/// The calls of job control in the phase at a place.
-fn placed_in(parts: &[JobsPart], place: usize) -> &[PlacedCall<OwnCall>]
-    ensures { result.now ≡ slice_index_or (map own_of parts.now) place [] }
-{
-    match parts.get(place) {
-        None => &[],
-        Some(part) => part.own.as_slice(),
-    }
 }
 
 /// The names of a port's callers.
@@ -208,28 +197,6 @@ fn put_signals_on(
 {
     let procs = procs_on(alloc, session.procs.as_slice(), port)?;
     put_port_signals(text, port, procs.as_slice(), log)
-}
-
-/// The processes of a port.
-fn procs_on(alloc: Global, procs: &[PortProc], port: u8) -> Result<Vec<Proc>, NoMemory>
-    ensures { IfOk result (λ found. found.items ≡ procs_on port procs.now) }
-{
-    let mut found = Vec::new(alloc);
-    for proc in procs {
-        add_proc(&mut found, proc, port)?;
-    }
-    Ok(found)
-}
-
-/// Adds a process, where it is one of this port.
-fn add_proc(found: &mut Vec<Proc>, proc: &PortProc, port: u8) -> Result<(), NoMemory>
-    ensures { OnOk result
-        (found.new.items ≡ found.old.items ++ (if proc.now.port == port then proc.now.proc ∷ [] else [])) }
-{
-    if proc.port == port {
-        found.push(proc.proc)?;
-    }
-    Ok(())
 }
 
 /// Adds the lines of the signals of a port, which has these processes.

@@ -1,15 +1,15 @@
 //! The lines of scripts: each call that was answered.
 
 ghost use Rattle.std.specs.Prelude.{◌≡◌, ◌++◌, ◌+◌, ◌-◌, ◌<◌, ◌≤◌, ◌==◌, IfOk, OnOk, ◌∷◌, [], drop, if◌then◌else◌};
-ghost use Rattle.std.specs.Prelude.{length, map, nat_lt, not, position, replicate, slice_get, take};
+ghost use Rattle.std.specs.Prelude.{length, map, nat_lt, replicate, slice_get, take};
 ghost use Rattle.tty_calls.specs.Sessions.{number_in, script_of};
 ghost use Rattle.session_print.specs.Words.{verb_of};
-ghost use Rattle.passed_calls.specs.Scripts.{count_in, mixed, mixed_scripts, plain, further};
+ghost use Rattle.passed_calls.specs.Scripts.{mixed, mixed_scripts, plain, further};
 ghost use Rattle.further_report.specs.Calls.{answered_line, lines_from, verb_in};
 ghost use Rattle.further_report.specs.Printing.{bytes_of, script_text, scripts_text, steps_after, steps_then};
 
 use crate::verbs::{FurtherCall, verb_of};
-use passed_calls::PlacedCall;
+use passed_calls::{PlacedCall, count_in};
 use std::alloc::Global;
 use tty_base::{Bytes, NoMemory};
 use tty_calls::{Calls, Names, Script};
@@ -144,24 +144,6 @@ pub(crate) fn first_steps(alloc: Global, callers: usize) -> Result<Vec<usize>, N
         steps.push(0)?;
     }
     Ok(steps)
-}
-
-/// How many of these calls stand in a script.
-fn count_in<C: FurtherCall>(script: usize, placed: &[PlacedCall<C>]) -> usize
-    ensures count { result ≡ count_in script placed.now }
-    ensures within { result ≤ length placed.now }
-{
-    match first_beside(script, placed) {
-        None => placed.len(),
-        Some(count) => count,
-    }
-}
-
-/// The first of these calls that does not stand in a script.
-fn first_beside<C: FurtherCall>(script: usize, placed: &[PlacedCall<C>]) -> Option<usize>
-    ensures { result ≡ position (λ o. not (o.script == script)) placed.now }
-{
-    placed.iter().position(|call| call.script != script)
 }
 
 /// Where a script is told: the next step, how many of its calls for the port were told, and the place of the next call.

@@ -12,8 +12,8 @@ use Rattle.tty_calls.specs.Plain.{PlainCall}
 use Rattle.tty_calls.specs.Sessions.{PlainScript, PlainPhase, PlainSession}
 use Rattle.text_lines.specs.Values.{number_at, word_at}
 use Rattle.session_text.specs.declared.faults.Reason.TheVariants as reason
-use Rattle.session_text.specs.declared.stands.Place.{Place}
-use Rattle.session_text.specs.declared.stands.Place.TheVariants as place
+use Rattle.session_text.specs.declared.stands.ItemPlace.{ItemPlace}
+use Rattle.session_text.specs.declared.stands.ItemPlace.TheVariants as place
 use Rattle.session_text.specs.declared.verbs.Verb.{Verb}
 use Rattle.session_text.specs.declared.verbs.Verb.TheVariants as verb
 use Rattle.session_text.specs.Drafts.{PlainDraft, all_phases, session_with}
@@ -329,7 +329,7 @@ is_caller (verb.Call c) e = absurd (cc)
 
 -- ---- in a phase, and outside of phases
 
-head_outside : (at : Place) → is_head at ≡ true → in_phase at ≡ false
+head_outside : (at : ItemPlace) → is_head at ≡ true → in_phase at ≡ false
 head_outside place.Head h = refl
 head_outside place.Start h = absurd (cc)
 head_outside place.Ended h = absurd (cc)
@@ -339,7 +339,7 @@ head_outside place.Line h = absurd (cc)
 head_outside place.Clock h = absurd (cc)
 head_outside place.Caller h = absurd (cc)
 
-pub start_outside : (at : Place) → is_start at ≡ true → in_phase at ≡ false
+pub start_outside : (at : ItemPlace) → is_start at ≡ true → in_phase at ≡ false
 start_outside place.Start h = refl
 start_outside place.Head h = absurd (cc)
 start_outside place.Ended h = absurd (cc)

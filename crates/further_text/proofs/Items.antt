@@ -7,14 +7,15 @@ use Rattle.std.specs.Option.{option_or}
 use Rattle.std.specs.Str.{bytes_eq}
 use Rattle.std.proofs.lemmas.Bool.{both_ways}
 use Rattle.std.proofs.lemmas.Slice.Eq.{bytes_eq-Decides}
+use Rattle.tty_base.specs.Sizes.{MOST_PORTS}
 use Rattle.tty_calls.specs.Sessions.{PlainSession}
 use Rattle.text_lines.specs.Lines.{first_is}
 use Rattle.text_lines.specs.Values.{number_at, choice_of}
 use Rattle.session_text.specs.declared.faults.Reason.{Reason}
 use Rattle.session_text.specs.declared.faults.Reason.TheVariants as reason
 use Rattle.session_text.specs.declared.faults.BadLine.{BadLine}
-use Rattle.session_text.specs.declared.stands.Place.{Place}
-use Rattle.session_text.specs.declared.stands.Place.TheVariants as place
+use Rattle.session_text.specs.declared.stands.ItemPlace.{ItemPlace}
+use Rattle.session_text.specs.declared.stands.ItemPlace.TheVariants as place
 use Rattle.session_text.specs.declared.verbs.Verb.{Verb}
 use Rattle.session_text.specs.declared.verbs.Verb.TheVariants as verb
 use Rattle.session_text.specs.declared.verbs.LineVerb.{LineVerb}
@@ -180,7 +181,7 @@ header_by true true v h = (refl, cc)
 header_by true false v h = absurd (cc)
 header_by false fits v h = absurd (cc)
 
-abbrev HeaderOr : PlainStand → Place → List ℕ → List (List ℕ) → Verb → Type 0
+abbrev HeaderOr : PlainStand → ItemPlace → List ℕ → List (List ℕ) → Verb → Type 0
 HeaderOr s at word arguments v =
     ((is_start at ≡ true) × (word ≡ codes "tty-session") × (verb.Session ≡ v))
     ⊎ ((is_start at ≡ false) × (verb_of s.version word ≡ Some v) × Fits s v arguments)
@@ -192,14 +193,14 @@ at_header s word arguments v h =
     let is = header_by (bytes_eq word (codes "tty-session")) (is_good s.ports verb.Session arguments) v h in
     inl (refl, (bytes_eq-Decides word (codes "tty-session")).0 is.0, is.1)
 
-at_other : (s : PlainStand) (at : Place) (word : List ℕ) (arguments : List (List ℕ)) (v : Verb)
+at_other : (s : PlainStand) (at : ItemPlace) (word : List ℕ) (arguments : List (List ℕ)) (v : Verb)
     → is_start at ≡ false
     → verb_verdict s (verb_of s.version word) arguments ≡ Ok v
     → HeaderOr s at word arguments v
 at_other s at word arguments v past h =
     let is = verdict_by s (verb_of s.version word) arguments v h in inr (past, is.0, is.1)
 
-found_at : (s : PlainStand) (at : Place) (word : List ℕ) (arguments : List (List ℕ)) (v : Verb)
+found_at : (s : PlainStand) (at : ItemPlace) (word : List ℕ) (arguments : List (List ℕ)) (v : Verb)
     → verdict_at s at word arguments ≡ Ok v
     → HeaderOr s at word arguments v
 found_at s place.Start word arguments v h = at_header s word arguments v h
@@ -211,7 +212,7 @@ found_at s place.Clock word arguments v h = at_other s place.Clock word argument
 found_at s place.Caller word arguments v h = at_other s place.Caller word arguments v refl h
 found_at s place.Ended word arguments v h = at_other s place.Ended word arguments v refl h
 
-word_is : (s : PlainStand) (at : Place) (word : List ℕ) (arguments : List (List ℕ)) (v : Verb)
+word_is : (s : PlainStand) (at : ItemPlace) (word : List ℕ) (arguments : List (List ℕ)) (v : Verb)
     → HeaderOr s at word arguments v
     → word ≡ verb_text v
 word_is s at word arguments v (inl header) = header.1 ∙ ap verb_text header.2
@@ -283,14 +284,14 @@ pub took_sort : (r next : PlainReading) (word : List ℕ) (arguments : List (Lis
     → sort_of word ≡ sort_by took.what
 took_sort r next word arguments took = ap sort_of took.text ∙ sort_is took.what
 
-fits_past : (s : PlainStand) (at : Place) (word : List ℕ) (arguments : List (List ℕ)) (v : Verb)
+fits_past : (s : PlainStand) (at : ItemPlace) (word : List ℕ) (arguments : List (List ℕ)) (v : Verb)
     → is_start at ≡ false
     → HeaderOr s at word arguments v
     → Fits s v arguments
 fits_past s at word arguments v past (inl header) = absurd (both_ways (is_start at) past header.0)
 fits_past s at word arguments v past (inr other) = other.2
 
-header_first : (s : PlainStand) (at : Place) (word : List ℕ) (arguments : List (List ℕ)) (v : Verb)
+header_first : (s : PlainStand) (at : ItemPlace) (word : List ℕ) (arguments : List (List ℕ)) (v : Verb)
     → is_start at ≡ true
     → HeaderOr s at word arguments v
     → verb.Session ≡ v
@@ -377,7 +378,7 @@ pub base_ports : (r next : BaseReading) (n : ℕ) (word : List ℕ) (arguments :
     → base_after_ports r n word arguments ≡ Ok next
     → Takes 0 r word arguments next
 base_ports r next n word arguments h =
-    ports_by (length arguments == 1) (min (number_at arguments 0) 8) r next n word arguments h
+    ports_by (length arguments == 1) (min (number_at arguments 0) MOST_PORTS) r next n word arguments h
 
 some_left : (n : ℕ) → (n == 0) ≡ false → 1 ≤ n
 some_left zero h = absurd (cc)

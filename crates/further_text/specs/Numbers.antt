@@ -1,5 +1,6 @@
 -- Arguments that are numbers.
 use Rattle.std.specs.Prelude.{ℕ, List, ◌&&◌, nat_le, nat_lt, Ok, Err, if◌then◌else◌}
+use Rattle.tty_base.specs.Sizes.{LAST_HANDLE}
 use Rattle.text_lines.specs.Values.{is_number, number_of}
 use Rattle.session_text.specs.declared.faults.Reason.TheVariants.{Number, Limit}
 use Rattle.further_text.specs.Faults.{Read}
@@ -20,4 +21,4 @@ port_in ports word =
     if is_number word then (if nat_lt (number_of word) ports then Ok (number_of word) else Err Limit) else Err Number
 
 abbrev pub handle_in : List ℕ → Read ℕ
-handle_in word = bounded 31 word
+handle_in word = bounded LAST_HANDLE word

@@ -1,8 +1,9 @@
 -- What every text with further items reads of a session of ports, and counts beside it.
 use Rattle.std.specs.Prelude.{ℕ, ◌-◌, ◌==◌, min, Bool, List, length, Result, Ok, if◌then◌else◌}
+use Rattle.tty_base.specs.Sizes.{MOST_PORTS, MOST_STEPS}
 use Rattle.text_lines.specs.Values.{number_at}
 use Rattle.tty_calls.specs.Sessions.{PlainSession}
-use Rattle.session_text.specs.declared.faults.Reason.TheVariants.{Order, Limit}
+use Rattle.session_text.specs.declared.faults.Reason.TheVariants.{Limit}
 use Rattle.session_text.specs.declared.faults.BadLine.{BadLine}
 use Rattle.session_text.specs.Stands.{in_phase, is_start, is_ended, verdict_on}
 use Rattle.session_text.specs.Reading.{PlainReading, first_reading, reading_after_item, session_at_end}
@@ -17,7 +18,7 @@ pub record BaseReading : Type 0 where
   pub steps_left : ℕ
 
 abbrev pub first_base : BaseReading
-first_base = record { session = first_reading; ports = 0; left_at_opening = 65536; steps_left = 65536 }
+first_base = record { session = first_reading; ports = 0; left_at_opening = MOST_STEPS; steps_left = MOST_STEPS }
 
 abbrev pub at_start : BaseReading → Bool
 at_start r = is_start r.session.stand.place
@@ -34,11 +35,12 @@ base_after_item r n word arguments =
     reading_after_item r.session n arguments (verdict_on r.session.stand word arguments)
     >>= λ session. Ok (record r { session = session })
 
--- the item that says how many ports there are: 8 at most, and with another number of arguments it is a wrong one
+-- the item that says how many ports there are, up to the most; with another number of arguments it is a wrong one
 abbrev pub base_after_ports : BaseReading → ℕ → List ℕ → List (List ℕ) → Result BaseReading BadLine
 base_after_ports r n word arguments =
     if length arguments == 1
-    then (base_after_item r n word arguments >>= λ next. Ok (record next { ports = min (number_at arguments 0) 8 }))
+    then (base_after_item r n word arguments
+    >>= λ next. Ok (record next { ports = min (number_at arguments 0) MOST_PORTS }))
     else base_after_item r n word arguments
 
 -- a step is one of those that may still come

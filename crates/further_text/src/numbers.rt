@@ -5,6 +5,7 @@ ghost use Rattle.further_text.specs.Numbers.{bounded, handle_in, port_in, ranged
 
 use session_text::{BadLine, Reason, TextFault};
 use text_lines::{FirstTwo, read_number};
+use tty_base::sizes::LAST_HANDLE;
 
 /// A line is wrong for this reason.
 pub fn bad(line: u32, reason: Reason) -> TextFault
@@ -66,5 +67,5 @@ pub fn port_in(ports: u8, word: &[u8]) -> Result<u8, Reason>
 pub fn handle_in(word: &[u8]) -> Result<u8, Reason>
     ensures { result ≡ handle_in word.now }
 {
-    Ok(bounded(31, word)? as u8)
+    Ok(bounded(LAST_HANDLE as u64, word)? as u8)
 }

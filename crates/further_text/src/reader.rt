@@ -1,8 +1,9 @@
 //! What every text with further items reads of a session of ports, and counts beside it.
 
 ghost use Rattle.std.specs.Prelude.{◌≡◌, min};
+ghost use Rattle.tty_base.specs.Sizes.{MOST_PORTS};
 ghost use Rattle.tty_calls.specs.Sessions.{session_of};
-ghost use Rattle.session_text.specs.Reading.{Gives};
+ghost use Rattle.session_text.specs.Reading.{GivesRead};
 ghost use Rattle.further_text.specs.Reading.{at_end, at_start, base_after_item, base_after_ports, base_after_step};
 ghost use Rattle.further_text.specs.Reading.{base_at_end, first_base, in_open_phase, place_in, spend, with_block};
 ghost use Rattle.further_text.specs.Views.{base_of};
@@ -11,11 +12,10 @@ use crate::numbers::{bad, has_count};
 use session_text::{Reader, Reason, TextFault};
 use std::alloc::Global;
 use text_lines::FirstTwo;
+use tty_base::sizes::MOST_STEPS;
 use tty_calls::Session;
 
 /// So many steps a text has at most.
-const STEPS: u64 = 65_536;
-
 /// What was read of the session of ports, and how many ports it has; and how many steps may still come.
 #[derive(Drop)]
 pub struct BaseReader {
@@ -34,8 +34,8 @@ impl BaseReader {
         BaseReader {
             session: Reader::new(alloc),
             ports: 0,
-            left_at_opening: STEPS,
-            steps_left: STEPS,
+            left_at_opening: MOST_STEPS as u64,
+            steps_left: MOST_STEPS as u64,
         }
     }
 
@@ -47,7 +47,7 @@ impl BaseReader {
         word: &[u8],
         arguments: &FirstTwo,
     ) -> Result<(), TextFault>
-        ensures { Gives (λ _. base_of self.new) result
+        ensures { GivesRead (λ _. base_of self.new) result
             (base_after_item (base_of self.old) number word.now arguments.now) }
     {
         self.session.read_item(alloc, number, word, arguments)
@@ -61,7 +61,7 @@ impl BaseReader {
         word: &[u8],
         arguments: &FirstTwo,
     ) -> Result<(), TextFault>
-        ensures { Gives (λ _. base_of self.new) result
+        ensures { GivesRead (λ _. base_of self.new) result
             (base_after_ports (base_of self.old) number word.now arguments.now) }
     {
         if !has_count(arguments, 1) {
@@ -81,7 +81,7 @@ impl BaseReader {
         word: &[u8],
         arguments: &FirstTwo,
     ) -> Result<(), TextFault>
-        ensures { Gives (λ _. base_of self.new) result
+        ensures { GivesRead (λ _. base_of self.new) result
             (base_after_step (base_of self.old) number word.now arguments.now) }
     {
         self.read_item(alloc, number, word, arguments)?;
@@ -90,7 +90,7 @@ impl BaseReader {
 
     /// Counts a step.
     pub fn spend(&mut self, number: u32) -> Result<(), TextFault>
-        ensures { Gives (λ _. base_of self.new) result (spend number (base_of self.old)) }
+        ensures { GivesRead (λ _. base_of self.new) result (spend number (base_of self.old)) }
     {
         if self.steps_left == 0 {
             return Err(bad(number, Reason::Limit));
@@ -143,7 +143,7 @@ impl BaseReader {
 
     /// The session of ports, where the text ends before the line with this number.
     pub fn finish(self, number: u32) -> Result<Session, TextFault>
-        ensures { Gives session_of result (base_at_end (base_of self) number) }
+        ensures { GivesRead session_of result (base_at_end (base_of self) number) }
     {
         let BaseReader {
             session,
@@ -157,7 +157,7 @@ impl BaseReader {
 
 // There are 8 ports at most.
 fn ports_of(number: u64) -> u8
-    ensures { result ≡ min number 8 }
+    ensures { result ≡ min number MOST_PORTS }
 {
     if number < 8 { number as u8 } else { 8 }
 }

@@ -83,7 +83,7 @@ fn after_a_window(alloc: Global) -> Result<LineReport, NoMemory> {
     let bytes = b"ABCDEFGHIJ";
     if line.whole_window(7).is_none() {
         if let Some(count) = line.whole_window(bytes.len()) {
-            line.accept_window(&bytes[..count]);
+            line.receive_window(&bytes[..count]);
         }
     }
     Ok(line.into_report())
@@ -95,6 +95,6 @@ fn a_window_is_told(alloc: Global) -> Result<bool, NoMemory> {
 }
 
 #[test]
-fn a_whole_window_is_accepted_and_counted(rt: HostRuntime) {
+fn a_whole_window_is_received_and_counted(rt: HostRuntime) {
     assert!(rt; a_window_is_told(rt.alloc()) == Ok(true));
 }

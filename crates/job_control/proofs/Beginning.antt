@@ -2,6 +2,7 @@
 use Rattle.std.proofs.Common.{◌≡◌, ℕ, ◌<◌, ◌≤◌, Bool, false, List, None, length, map, sym, ap, subst, ◌∙◌, arith}
 use Rattle.std.specs.Prelude.{◌==◌, replicate}
 use Rattle.std.proofs.lemmas.List.{length-replicate}
+use Rattle.tty_base.specs.Sizes.{GROUP_END, MOST_PROCESSES}
 use Rattle.job_control.specs.declared.processes.Proc.{Proc}
 use Rattle.job_control.specs.declared.census.Census.{Census}
 use Rattle.job_control.specs.Roster.{group_at}
@@ -11,7 +12,7 @@ use Rattle.job_control.proofs.Marks.{marks_none, none_past}
 
 pub kept_at_first : (procs kept : List Proc) (exited lent again : List Bool) (marks : List ℕ) (ties living : Census)
     (children : List (List ℕ))
-    → length procs ≤ 1024
+    → length procs ≤ MOST_PROCESSES
     → kept ≡ procs
     → exited ≡ replicate (length procs) false
     → marks ≡ replicate (length procs) 0
@@ -19,7 +20,7 @@ pub kept_at_first : (procs kept : List Proc) (exited lent again : List Bool) (ma
     → again ≡ exited
     → ((group : ℕ) → counted ties group ≡ ties_count procs lent group)
     → ((key : ℕ) → counted living key ≡ living_count procs again key)
-    → ((p : ℕ) → group_at procs p < 65536)
+    → ((p : ℕ) → group_at procs p < GROUP_END)
     → AreChildren procs children
     → IsKept kept exited marks 1 ties living children
 kept_at_first procs kept exited lent again marks ties living children few
@@ -29,7 +30,7 @@ kept_at_first procs kept exited lent again marks ties living children few
     let many : length marks ≡ length procs = ap length cleared ∙ length-replicate (length procs) 0 in
     record {
       few = omega (arith, long, few);
-      groups_fit = λ p. let P : List Proc → Type 0 = λ ps. group_at ps p < 65536 in subst P (sym same) (fits p);
+      groups_fit = λ p. let P : List Proc → Type 0 = λ ps. group_at ps p < GROUP_END in subst P (sym same) (fits p);
       exits_fit = flags ∙ sym long;
       marks_fit = many ∙ sym long;
       marks_past = λ p.

@@ -82,17 +82,6 @@ untied procs exited children gone group old first new within are own is =
     ap (count_by (ties_group procs exited group)) are in
     omega (arith, parts, listed, own, is)
 
--- one child more is taken away
-pub child_taken :
-    (procs : List Proc) (exited : List Bool) (group child : ℕ) (rest : List ℕ) (old new left : ℕ)
-    → new ≡ old - tie_of procs exited group child → old - count_by (ties_group procs exited group) (child ∷ rest) ≡ left
-    → new - count_by (ties_group procs exited group) rest ≡ left
-child_taken procs exited group child rest old new left is before =
-    let step : count_by (ties_group procs exited group) (child ∷ rest)
-    ≡ tie_of procs exited group child + count_by (ties_group procs exited group) rest =
-    count_cons (ties_group procs exited group) child rest in
-    omega (arith, step, is, before)
-
 -- ---- making the lists
 
 -- the list at a place gets more

@@ -7,6 +7,7 @@ use Rattle.std.proofs.lemmas.List.Sums.{sum_by-cons, count_by-le-length}
 use Rattle.std.proofs.lemmas.List.FromFn.{length-range_with_len}
 use Rattle.std.proofs.lemmas.Bool.Decides.{nat_tests}
 use Rattle.std.proofs.lemmas.Bool.{cases_eq, ne_eqb, eq-eqb, and_right}
+use Rattle.tty_base.specs.Sizes.{MOST_PROCESSES}
 
 -- 1 for what passes
 abbrev pub one_if : Bool → ℕ
@@ -108,18 +109,12 @@ pub count_step : (f : ℕ → Bool) (i n : ℕ)
     → count_by f (range_with_len i (n - i)) ≡ one_if (f i) + count_by f (range_with_len (i + 1) (n - (i + 1)))
 count_step f i n lt = rw (range_step i n lt) (count_cons f i (range_with_len (i + 1) (n - (i + 1))))
 
-pub count_past : (f : ℕ → Bool) (i n : ℕ) → n ≤ i → count_by f (range_with_len i (n - i)) ≡ 0
-count_past f i n le = let e : n - i ≡ 0 = omega arith in rw e refl
-
 pub count_few : (f : ℕ → Bool) (i n : ℕ) → count_by f (range_with_len i n) ≤ n
 count_few f i n =
     let most : count_by f (range_with_len i n) ≤ length (range_with_len i n) =
     count_by-le-length f (range_with_len i n) in
     let long : length (range_with_len i n) ≡ n = length-range_with_len i n in
     omega (arith, most, long)
-
-pub count_whole : (f : ℕ → Bool) (n : ℕ) → count_by f (range_with_len 0 (n - 0)) ≡ count_by f (range_with_len 0 n)
-count_whole f n = let e : n - 0 ≡ n = omega arith in rw e refl
 
 -- a count that has come so far, with the rest of the range, is the whole: one more place is looked at
 pub counted_more : (f : ℕ → Bool) (i n old new one total : ℕ)
@@ -133,23 +128,8 @@ counted_more f i n old new one total lt here is before =
     ≡ one_if (f i) + count_by f (range_with_len (i + 1) (n - (i + 1))) = count_step f i n lt in
     omega (arith, step, here, is, before)
 
-pub counted_all : (f : ℕ → Bool) (i n old total : ℕ)
-    → n ≤ i
-    → old + count_by f (range_with_len i (n - i)) ≡ total
-    → old ≡ total
-counted_all f i n old total le before =
-    let rest : count_by f (range_with_len i (n - i)) ≡ 0 = count_past f i n le in
-    omega (arith, rest, before)
-
-pub counted_none : (f : ℕ → Bool) (n old : ℕ)
-    → old ≡ 0
-    → old + count_by f (range_with_len 0 (n - 0)) ≡ count_by f (range_with_len 0 n)
-counted_none f n old none =
-    let whole : count_by f (range_with_len 0 (n - 0)) ≡ count_by f (range_with_len 0 n) = count_whole f n in
-    omega (arith, whole, none)
-
 pub counted_few : (f : ℕ → Bool) (i n old : ℕ)
-    → n ≤ 1024
+    → n ≤ MOST_PROCESSES
     → old + count_by f (range_with_len i (n - i)) ≡ count_by f (range_with_len 0 n)
     → old < 65535
 counted_few f i n old few before =

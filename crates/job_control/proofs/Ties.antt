@@ -7,7 +7,8 @@ use Rattle.std.specs.Option.{option_map_or}
 use Rattle.std.specs.List.{list_any, range_with_len}
 use Rattle.std.proofs.Math.Bool.{and-false}
 use Rattle.std.proofs.lemmas.Bool.Decides.{nat_tests}
-use Rattle.std.proofs.lemmas.Bool.{cases_eq, cases_lt, ne_eqb, eq-eqb}
+use Rattle.std.proofs.lemmas.Bool.{cases_eq, ne_eqb, eq-eqb}
+use Rattle.tty_base.specs.Sizes.{GROUP_END}
 use Rattle.job_control.specs.declared.processes.Proc.{Proc}
 use Rattle.job_control.specs.Roster.{places_of, session_at, group_at, parent_at, has_exited, ties_to}
 use Rattle.job_control.specs.Roster.{is_tied, ties_group, is_orphaned, lives_in, has_living}
@@ -210,8 +211,8 @@ group_past (proc ∷ procs) (suc p) le = group_past procs p (omega arith)
 
 -- with one number for session and group the test is that of both
 lives_by_key : (exited : Bool) (s g session group : ℕ)
-    → g < 65536
-    → group < 65536
+    → g < GROUP_END
+    → group < GROUP_END
     → (not exited && (s == session) && (g == group)) ≡ (not exited && (key_of s g == key_of session group))
 lives_by_key true s g session group small few = refl
 lives_by_key false s g session group small few = grind (arith, nat_tests)
@@ -221,8 +222,8 @@ list_any_same f h same [] = refl
 list_any_same f h same (x ∷ xs) = rw (same x) (ap (λ rest. h x || rest) (list_any_same f h same xs))
 
 pub living_by_count : (procs : List Proc) (exited : List Bool) (session group kept : ℕ)
-    → ((p : ℕ) → group_at procs p < 65536)
-    → group < 65536
+    → ((p : ℕ) → group_at procs p < GROUP_END)
+    → group < GROUP_END
     → kept ≡ living_count procs exited (key_of session group)
     → not (kept == 0) ≡ has_living procs exited session group
 living_by_count procs exited session group kept small few is =
@@ -275,25 +276,14 @@ no_life_counted procs exited key i n old new total lt over is before =
     counted_more (lives_under procs exited key) i n old new 0 total lt (lives_not_here procs exited key i over)
     (omega (arith, is)) before
 
--- every group is a number of 16 bits
-pub groups_all : (procs : List Proc)
-    → ((p : ℕ) → p < length procs → group_at procs p < 65536)
-    → (p : ℕ)
-    → group_at procs p < 65536
-groups_all procs within p =
-    ⊎_elim
-    (λ lt. within p lt)
-    (λ past. let none : group_at procs p ≡ 0 = group_past procs p past in omega (arith, none))
-    (cases_lt p (length procs))
-
 pub groups_more : (procs : List Proc) (i : ℕ)
-    → group_at procs i < 65536
-    → ((p : ℕ) → p < i → group_at procs p < 65536)
+    → group_at procs i < GROUP_END
+    → ((p : ℕ) → p < i → group_at procs p < GROUP_END)
     → (p : ℕ)
     → p < i + 1
-    → group_at procs p < 65536
+    → group_at procs p < GROUP_END
 groups_more procs i here before p lt =
     ⊎_elim
-    (λ e. let P : ℕ → Type 0 = λ q. group_at procs q < 65536 in subst P (sym e) here)
+    (λ e. let P : ℕ → Type 0 = λ q. group_at procs q < GROUP_END in subst P (sym e) here)
     (λ ne. before p (omega (arith, lt, ne)))
     (cases_eq p i)

@@ -4,6 +4,7 @@ use Rattle.std.specs.Prelude.{[], ◌∷◌, ◌++◌, Option, None, Some, filte
 use Rattle.std.specs.Prelude.{slice_index_or, slice_set, count_by, nat_eq, unwrap_or, if◌then◌else◌}
 use Rattle.std.specs.HashMap.{get}
 use Rattle.std.specs.Option.{option_map_or}
+use Rattle.tty_base.specs.Sizes.{GROUP_END, MOST_PROCESSES}
 use Rattle.job_control.specs.declared.processes.Proc.{Proc}
 use Rattle.job_control.specs.declared.census.Census.{Census}
 use Rattle.job_control.specs.Roster.{places_of, session_at, group_at, parent_at, has_exited, ties_group}
@@ -14,7 +15,7 @@ counted census key = unwrap_or (get nat_eq census.counts key) 0
 
 -- a session and a group as one number
 abbrev pub key_of : (session group : ℕ) → ℕ
-key_of session group = session * 65536 + group
+key_of session group = session * GROUP_END + group
 
 abbrev pub key_at : List Proc → ℕ → ℕ
 key_at procs p = key_of (session_at procs p) (group_at procs p)
@@ -71,8 +72,8 @@ one_at key k = if key == k then 1 else 0
 -- process, and no mark is ahead of the number of times that the port was taken
 pub record IsKept (procs : List Proc) (exited : List Bool) (given_up_at : List ℕ) (taken : ℕ) (ties living : Census)
     (children : List (List ℕ)) : Type 0 where
-  pub few : length procs ≤ 1024
-  pub groups_fit : (p : ℕ) → group_at procs p < 65536
+  pub few : length procs ≤ MOST_PROCESSES
+  pub groups_fit : (p : ℕ) → group_at procs p < GROUP_END
   pub exits_fit : length exited ≡ length procs
   pub marks_fit : length given_up_at ≡ length procs
   pub marks_past : (p : ℕ) → slice_index given_up_at p ≤ taken

@@ -3,6 +3,7 @@
 ghost use Rattle.std.specs.Prelude.{◌≡◌, ◌==◌, ◌<◌, ◌≤◌, ℕ, false, true, length, map, slice_get};
 ghost use Rattle.std.specs.Prelude.{slice_index, slice_index_or, slice_set, replicate, EachIndex, IfOk};
 ghost use Rattle.std.specs.Option.{option_map_or};
+ghost use Rattle.tty_base.specs.Sizes.{MOST_PROCESSES};
 ghost use Rattle.job_control.specs.Roster.{group_at, has_living};
 ghost use Rattle.job_control.specs.Control.{first_jobs, controls, in_background, leads_holder, ignores_ttin};
 ghost use Rattle.job_control.specs.Control.{ignores_ttou, is_orphan, change_judged, judged, done_unless, sctty_refusal};
@@ -65,7 +66,7 @@ impl Model for Jobs {
 impl Jobs {
     /// Nobody holds the port. There are at most 1,024 processes.
     pub fn new(alloc: Global, procs: &[Proc]) -> Result<Jobs, NoMemory>
-        requires { length procs.now ≤ 1024 }
+        requires { length procs.now ≤ MOST_PROCESSES }
         ensures { IfOk result (λ jobs. jobs ≡ first_jobs procs.now) }
     {
         let kept = copy_of(alloc, procs)?;

@@ -2,6 +2,7 @@
 
 ghost use Rattle.std.specs.Prelude.{◌≡◌, ℕ, ◌-◌, ◌+◌, ◌≤◌, ◌<◌, ◌==◌, [], ◌∷◌, ◌++◌, count_by};
 ghost use Rattle.std.specs.Prelude.{length, map, replicate, slice_index_or, slice_set, IfOk, OnOk};
+ghost use Rattle.tty_base.specs.Sizes.{GROUP_END, MOST_PROCESSES};
 ghost use Rattle.job_control.specs.Roster.{session_at, group_at, parent_at, leads_at};
 ghost use Rattle.job_control.specs.Roster.{has_exited, ties_to, is_tied, places_of};
 ghost use Rattle.job_control.specs.Keeping.{AreChildren, children_of, counted, key_of, key_at, life_of};
@@ -11,6 +12,7 @@ use super::census::Census;
 use super::processes::Proc;
 use std::alloc::Global;
 use tty_base::NoMemory;
+use tty_base::sizes::GROUP_END;
 
 pub(crate) fn session_of(procs: &[Proc], place: u16) -> u16
     ensures { result ≡ session_at procs.now place }
@@ -50,13 +52,13 @@ pub(crate) fn has_exited(exited: &[bool], place: u16) -> bool
 pub(crate) fn key(session: u16, group: u16) -> u32
     ensures { result ≡ key_of session group }
 {
-    u32::from(session) * 65536 + u32::from(group)
+    u32::from(session) * GROUP_END + u32::from(group)
 }
 
 /// Those of a process as one number.
 pub(crate) fn key_of(procs: &[Proc], place: u16) -> u32
     ensures key { result ≡ key_at procs.now place }
-    ensures fits { group_at procs.now place < 65536 }
+    ensures fits { group_at procs.now place < GROUP_END }
 {
     key(session_of(procs, place), group_of(procs, place))
 }
@@ -83,7 +85,7 @@ fn is_tied(procs: &[Proc], exited: &[bool], place: u16) -> bool
 
 /// Counts the processes that tie each group.
 pub(crate) fn ties_in(alloc: Global, procs: &[Proc], exited: &[bool]) -> Result<Census, NoMemory>
-    requires { length procs.now ≤ 1024 }
+    requires { length procs.now ≤ MOST_PROCESSES }
     ensures { IfOk result (λ ties. (group : ℕ) → counted ties group ≡ ties_count procs.now exited.now group) }
 {
     let mut ties = Census::new(alloc)?;
@@ -97,9 +99,9 @@ pub(crate) fn ties_in(alloc: Global, procs: &[Proc], exited: &[bool]) -> Result<
 
 /// Counts the processes of each session and group that have not exited.
 pub(crate) fn living_in(alloc: Global, procs: &[Proc], exited: &[bool]) -> Result<Census, NoMemory>
-    requires { length procs.now ≤ 1024 }
+    requires { length procs.now ≤ MOST_PROCESSES }
     ensures counts { IfOk result (λ living. (key : ℕ) → counted living key ≡ living_count procs.now exited.now key) }
-    ensures fits { IfOk result (λ living. (place : ℕ) → group_at procs.now place < 65536) }
+    ensures fits { IfOk result (λ living. (place : ℕ) → group_at procs.now place < GROUP_END) }
 {
     let mut living = Census::new(alloc)?;
     for place in 0..procs.len() as u16 {
@@ -145,7 +147,7 @@ fn untie_one(ties: &mut Census, procs: &[Proc], exited: &[bool], place: u16)
 
 /// Lists the children of each process.
 pub(crate) fn children_in(alloc: Global, procs: &[Proc]) -> Result<Vec<Vec<u16>>, NoMemory>
-    requires { length procs.now ≤ 1024 }
+    requires { length procs.now ≤ MOST_PROCESSES }
     ensures { IfOk result (λ lists. AreChildren procs.now (map (λ list. list.items) lists.items)) }
 {
     let mut lists = empty_lists(alloc, procs.len())?;

@@ -7,7 +7,7 @@ ghost use Rattle.job_control.specs.declared.processes.Judged.TheVariants.{Pass, 
 ghost use Rattle.job_control.specs.declared.processes.JobRefusal.TheVariants.{EPERM, ENOTTY};
 ghost use Rattle.job_control.specs.Control.{first_jobs, judged, sctty_refusal, after_sctty, no_terminal, after_notty};
 ghost use Rattle.job_control.specs.Control.{foreground_of, gpgrp_answer, spgrp_refusal, after_exit, leader_of};
-ghost use Rattle.job_control.specs.Rows.{family, held, given_over, orphan_family, orphan_held};
+ghost use Rattle.job_control.specs.Rows.{family, held, given_over, orphan_held};
 
 /// A law: a job in the background is stopped where it reads or changes the port, and where it writes under TOSTOP; in
 /// the foreground it is not.

@@ -1,6 +1,6 @@
 -- What an entry of a caller is that has begun no call: its end where its calls of the phase were answered, and else its
 -- next call, which is for the port then.
-use Rattle.std.proofs.Common.{◌≡◌, ◌≢◌, ◌≤◌, ◌<◌, ◌⊎◌, inl, inr, ℕ, zero, suc, ◌+◌, ◌-◌, ◌==◌, ◌&&◌, Bool, true}
+use Rattle.std.proofs.Common.{◌≡◌, ◌≢◌, ◌≤◌, ◌<◌, ◌⊎◌, inl, inr, ℕ, ◌+◌, ◌-◌, ◌==◌, ◌&&◌, Bool, true}
 use Rattle.std.proofs.Common.{false, not, List, [], ◌∷◌, ◌++◌, Option, None, Some, length, take, drop}
 use Rattle.std.proofs.Common.{get_or, cond}
 use Rattle.std.proofs.Common.{if◌then◌else◌, refl, sym, ap, ◌∙◌, subst, arith}
@@ -13,22 +13,18 @@ use Rattle.std.proofs.lemmas.List.Sums.{position_or_len_is}
 use Rattle.std.proofs.lemmas.Option.{get_or_from_slice_get, slice_get_within, slice_get-get_or, same_Some}
 use Rattle.tty_calls.specs.declared.journals.Who.{Who}
 use Rattle.tty_calls.specs.declared.journals.Who.TheVariants.{Caller, Session}
-use Rattle.tty_calls.specs.Plain.{PlainCall, PlainEvent, answered, parted, waited, flushed, ticked}
-use Rattle.tty_calls.specs.Plain.{line_ended, clock_ended, caller_ended, phase_ended, hung_up, PlainEntry, is_caller}
+use Rattle.tty_calls.specs.Plain.{PlainCall, PlainEvent}
+use Rattle.tty_calls.specs.Plain.{caller_ended, PlainEntry, is_caller}
 use Rattle.tty_calls.specs.Sessions.{PlainScript, PlainSession, names_of, scripts_on, scripts_over, call_at, counts_on}
 use Rattle.tty_terminal.specs.Terminals.{Terminal, opening, caller_at, has_begun}
-use Rattle.tty_terminal.specs.Standing.{Standing, standing_in, at_first}
 use Rattle.tty_terminal.specs.Steps.{IsAllowed}
 use Rattle.tty_terminal.specs.Runs.{Leads as Run, is_of_call, phase_after}
-use Rattle.tty_terminal.proofs.StandingLaws.{run_stands}
 use Rattle.tty_terminal.proofs.WaitLaws.{run_waits}
-use Rattle.journal_check.specs.Legal.{name_at, has_script, flip_on, IsInPhase}
-use Rattle.journal_check.specs.Legal.{IsCallOf, phase_at}
-use Rattle.journal_check.proofs.PhaseLemmas.{phase-after}
-use Rattle.one_thread.specs.Order.{Place, first_place as place_first, next_place, place_after, can_go_on, is_waiting}
-use Rattle.one_thread.specs.Order.{turn, AreInTurn}
-use Rattle.journal_check.proofs.Truths.{if_true}
-use Rattle.one_thread.proofs.Places.{place_more, leads_place}
+use Rattle.legal_runs.specs.Legal.{name_at, has_script, flip_on, IsInPhase, IsCallOf, phase_at}
+use Rattle.one_order.specs.Order.{Place, first_place as place_first, next_place, place_after, can_go_on, is_waiting}
+use Rattle.one_order.specs.Order.{turn, AreInTurn}
+use Rattle.legal_runs.proofs.Truths.{if_true}
+use Rattle.one_order.proofs.Places.{leads_place}
 use Rattle.job_control.specs.Control.{JobState}
 use Rattle.job_control.specs.declared.processes.Judged.TheVariants.{Pass}
 use Rattle.passed_calls.specs.Blocks.{names_on}
@@ -38,49 +34,23 @@ use Rattle.job_text.specs.Events.{JobLog}
 use Rattle.job_text.specs.Sessions.{JobCall, JobsSession, blocks_in}
 use Rattle.job_steps.specs.Derived.{job_call_at, IsStepIn}
 use Rattle.job_steps.specs.Steps.{Port, JobsState, jobs_before, proc_of, next_of, next_call, judged_call, is_of_step}
-use Rattle.job_steps.specs.Steps.{first_place, IsOfCall, GoesOn, Leads}
+use Rattle.job_steps.specs.Steps.{first_place, IsOfCall, WentToPort, Leads}
 use Rattle.job_steps.specs.Order.{turn_at, AreEventsInTurn}
 use Rattle.job_steps.proofs.Moments.{now_before}
 use Rattle.job_one.specs.Played.{port_in}
 use Rattle.job_laws.proofs.Due.{DueOf}
-use Rattle.job_laws.proofs.Bounds.{first_rises, by_next}
-use Rattle.job_laws.proofs.Journeys.{answer_count, answers_of, answers_in, answers_split, answers_later}
-use Rattle.job_laws.proofs.Journeys.{between}
-use Rattle.job_laws.proofs.Journeys.{take_one, drop_one, who_is, next_in, to_here, allowed_at, in_phase_at, after_at}
-use Rattle.job_laws.proofs.Journeys.{next_at, begun_later, over_later, phase_later, entry_step, none_before}
-use Rattle.job_laws.proofs.Journeys.{begins_at, ends_at}
-use Rattle.job_laws.proofs.LogLaws.{one_for, passed_in, answer_there, IsPast, NoMore, OwnNext, PassedNext, ahead}
-use Rattle.job_laws.proofs.Whole.{steps_few, one_phase, Whole, IsPartBy, turn_case}
+use Rattle.passed_laws.proofs.Fewer.{first_rises, by_next}
+use Rattle.passed_laws.proofs.Journeys.{answer_count, answers_of, answers_in, answers_split, answers_later}
+use Rattle.passed_laws.proofs.Journeys.{between}
+use Rattle.passed_laws.proofs.Journeys.{drop_one, who_is, to_here, allowed_at, in_phase_at}
+use Rattle.passed_laws.proofs.Journeys.{next_at, begun_later, over_later, phase_later, entry_step, none_before}
+use Rattle.passed_laws.proofs.Journeys.{begins_at, ends_at, one_for, answer_there}
+use Rattle.passed_laws.proofs.Journeys.{next_counts as counts_next, phase_behind as goes_behind}
+use Rattle.passed_laws.proofs.Comings.{caller_event, same_phase, part_begun}
+use Rattle.job_laws.proofs.LogLaws.{passed_in, IsPast, NoMore, OwnNext, PassedNext, ahead}
+use Rattle.job_laws.proofs.Whole.{steps_few, one_phase, Whole, turn_case}
 
 -- ---- small truths
-
-pub caller_event : (f : ℕ → ℕ → Option PlainCall) (counts : List ℕ) (t : Terminal) (c step part : ℕ)
-    (event : PlainEvent)
-    → IsAllowed f counts t (Caller c) step part event
-    → (is_of_call event ≡ true) ⊎ (event ≡ caller_ended)
-caller_event f counts t c step part (answered a dropped) h = inl refl
-caller_event f counts t c step part (parted n) h = inl refl
-caller_event f counts t c step part waited h = inl refl
-caller_event f counts t c step part (flushed chars) h = (let e = h.0 in absurd (cc))
-caller_event f counts t c step part ticked h = (let e = h.0 in absurd (cc))
-caller_event f counts t c step part (line_ended n) h = (let e = h.0 in absurd (cc))
-caller_event f counts t c step part clock_ended h = (let e = h.0 in absurd (cc))
-caller_event f counts t c step part caller_ended h = inr refl
-caller_event f counts t c step part phase_ended h = (let e = h.0 in absurd (cc))
-caller_event f counts t c step part (hung_up dropped) h = (let e = h.0 in absurd (cc))
-
--- an answer and the end of calls end no phase
-same_phase : (event : PlainEvent) (k : ℕ) → is_of_call event ≡ true → phase_after event k ≡ k
-same_phase (answered a dropped) k is = refl
-same_phase (parted n) k is = refl
-same_phase waited k is = refl
-same_phase (flushed chars) k is = absurd (false≢true is)
-same_phase ticked k is = absurd (false≢true is)
-same_phase (line_ended n) k is = absurd (false≢true is)
-same_phase clock_ended k is = absurd (false≢true is)
-same_phase caller_ended k is = absurd (false≢true is)
-same_phase phase_ended k is = absurd (false≢true is)
-same_phase (hung_up dropped) k is = absurd (false≢true is)
 
 not_over : (over b : Bool) → (not over && b) ≡ true → over ≡ false
 not_over true b e = absurd (false≢true e)
@@ -163,12 +133,7 @@ module _ (p : ℕ) (session : JobsSession) (played : PlainSession) (journal : Li
   at n = terminal_at port.journal n
 
   pub next_counts : (n c : ℕ) → (caller_at (at n) c).next ≡ answers_in c (take n journal)
-  next_counts n c =
-      let stands = run_stands f (counts_on p played) (flip_on p played) (take n journal) (at n)
-      (to_here p played first last journal w.journey n) c in
-      let counts = next_in c (take n journal) at_first in
-      ap (λ (q : Standing). q.next) stands ∙ (let e : (standing_in c (take n journal) at_first).next
-      ≡ answers_in c (take n journal) = omega (arith, counts) in e)
+  next_counts n c = counts_next p played last journal n c w.journey
 
   -- an entry is made by the one whose turn it is
   pub who_of : (n : ℕ) (e : PlainEntry) → slice_get journal n ≡ Some e → e.who ≡ turn_at played port n
@@ -207,9 +172,7 @@ module _ (p : ℕ) (session : JobsSession) (played : PlainSession) (journal : Li
       → slice_get journal n ≡ Some e
       → phase_after e.event (at n).phase ≡ (at n).phase
       → (at (n + 1)).phase ≡ (at n).phase
-  phase_behind n e is same =
-      ap (λ (t : Terminal). t.phase) (after_at p played first last journal w.journey n e is)
-      ∙ (phase-after f (counts_on p played) (at n) e (allowed_at p played first last journal w.journey n e is) ∙ same)
+  phase_behind n e is same = goes_behind p played first last journal w.journey n e is same
 
   -- where it is the turn of a caller that has begun no call, its calls are not over
   pub turn_not_over : (n c : ℕ)
@@ -223,7 +186,7 @@ module _ (p : ℕ) (session : JobsSession) (played : PlainSession) (journal : Li
       leads_place f (counts_on p played) (place_first p played) first (take n journal) (at n) refl
       (to_here p played first last journal w.journey n) in
       elim (turn_case p played s c turned) [
-        | inl part ↦ absurd (by_part n within rest part)
+        | inl part ↦ absurd (false≢true (sym rest ∙ part_begun p played last journal n c w.journey within part))
         | inr ranked ↦ elim ranked [
           | inl goes ↦ not_over (caller_at (at n) c).over _
               (subst (λ (t : Terminal). can_go_on f t c ≡ true) there goes)
@@ -234,30 +197,6 @@ module _ (p : ℕ) (session : JobsSession) (played : PlainSession) (journal : Li
               absurd (false≢true (sym rest ∙ begun))
         ]
       ]
-    where
-      by_part : (n : ℕ)
-          → n ≤ length journal
-          → has_begun (caller_at (at n) c) ≡ false
-          → IsPartBy c (place_after f (place_first p played) (take n journal)).before
-          → ⊥
-      by_part zero within rest part = (let never : None ≡ Some part.entry = part.is in absurd (cc))
-      by_part (suc m) within rest part =
-          let x : PlainEntry = get_or journal m part.entry in
-          let there : slice_get journal m ≡ Some x = slice_get-get_or journal m part.entry (omega (arith, within)) in
-          let count : suc m ≡ m + 1 = omega arith in
-          let place : place_after f (place_first p played) (take (suc m) journal)
-          ≡ next_place f (place_after f (place_first p played) (take m journal)) x =
-          ap (λ (k : ℕ). place_after f (place_first p played) (take k journal)) count
-          ∙ (ap (λ (es : List PlainEntry). place_after f (place_first p played) es) (take_one m journal x there)
-          ∙ place_more f (place_first p played) (take m journal) x) in
-          let same : x ≡ part.entry =
-          same_Some x part.entry (sym (ap (λ (s : Place). s.before) place) ∙ part.is) in
-          let begun = begins_at p played first last journal w.journey m c x there
-          (ap (λ (e : PlainEntry). e.who) same ∙ part.who)
-          (ap (λ (e : PlainEntry). is_of_call e.event) same ∙ part.of_call)
-          (ap (λ (e : PlainEntry). answer_count e.event) same ∙ part.none) in
-          let here = subst (λ (k : ℕ). has_begun (caller_at (at k) c) ≡ false) count rest in
-          absurd (false≢true (sym here ∙ begun))
 
   module _ (u : JobsState) (log : JobLog) (n c : ℕ) (e : PlainEntry) (leads : Leads port u log end)
       (turns : AreEventsInTurn played port u log) (idle : u.due ≡ []) (now : u.now.at ≤ n) (past : IsPast n log)
@@ -403,7 +342,7 @@ module _ (p : ℕ) (session : JobsSession) (played : PlainSession) (journal : Li
         let answers_call : is_of_call answer.event ≡ true = ap is_of_call o.is.entry.is_answer.1.1 in
         let its = entry_step p played first last journal w.journey m c answer stands o.is.entry.is_answer.0
         answers_call in
-        let one = answer_there port c c o.at o.answer o.is.entry in
+        let one = answer_there port.journal c c o.at o.answer o.is.entry in
         let self : one_for c c ≡ 1 = ap (λ (b : Bool). one_if b) (eq-eqb c c refl) in
         let parts = answers_later c n m journal (omega (arith, late, some)) in
         let none : answers_in c (between n m journal) ≡ 0 = omega (arith, one, self, parts, few, counted c) in
@@ -426,9 +365,9 @@ module _ (p : ℕ) (session : JobsSession) (played : PlainSession) (journal : Li
         ap (λ (i : ℕ). job_call_at p session c i) (sym o.same) in
         let place : first_place port.journal c k ≡ n = position_at (is_of_step c k) journal n e here
         (its_step of_call) (λ i y lt is passes. before_none i y lt is passes) in
-        let goes : GoesOn port o.state n c (Some (plain call.0)) =
-        subst (λ (o' : Option JobCall). GoesOn port o.state n c o') call.1
-        (subst (λ (i : ℕ). GoesOn port o.state i c (next_call port o.state c))
+        let goes : WentToPort port o.state n c (Some (plain call.0)) =
+        subst (λ (o' : Option JobCall). WentToPort port o.state n c o') call.1
+        (subst (λ (i : ℕ). WentToPort port o.state i c (next_call port o.state c))
         (ap (λ (i : ℕ). first_place port.journal c i) step ∙ place) o.is.goes_on) in
         let jobs : jobs_before port o.state n ≡ u.now.jobs = o.jobs ∙ now_before port u n now in
         record {

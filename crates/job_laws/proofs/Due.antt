@@ -29,7 +29,8 @@ use Rattle.job_text.specs.declared.calls.OwnCall.TheVariants as call
 use Rattle.job_text.specs.Events.{JobEvent, own, passed, passed_down, sent}
 use Rattle.job_text.specs.Sessions.{JobCall}
 use Rattle.job_steps.specs.Steps.{Port, JobsState, proc_of, next_call, Checked, unchecked, checks, checked}
-use Rattle.job_steps.specs.Steps.{judged_if, judged_call, sent_by_stop, Outcome, spgrp_judged, through, outcome_of}
+use Rattle.job_steps.specs.Steps.{judged_if, judged_call, sent_by_stop, ControlOutcome, spgrp_judged, through}
+use Rattle.job_steps.specs.Steps.{outcome_of}
 use Rattle.job_steps.specs.Steps.{leaves, done_or, number_or, notty_due, spgrp_outcome, foreground_target, after_own}
 use Rattle.job_steps.specs.Steps.{told_leader, after_passed}
 use Rattle.job_steps.specs.Steps.{rest_of, after_event}
@@ -89,11 +90,11 @@ module _ (D : ℕ → Type 0) where
   if_sends true xs ys h k = h
   if_sends false xs ys h k = k
 
-  if_due : (b : Bool) (x y : Outcome) → DueOf D x.due → DueOf D y.due → DueOf D (if b then x else y).due
+  if_due : (b : Bool) (x y : ControlOutcome) → DueOf D x.due → DueOf D y.due → DueOf D (if b then x else y).due
   if_due true x y h k = h
   if_due false x y h k = k
 
-  through_due : (jobs : JobState) (o : Option HandleState) (dead : JobAnswer) (outcome : Outcome)
+  through_due : (jobs : JobState) (o : Option HandleState) (dead : JobAnswer) (outcome : ControlOutcome)
       → DueOf D outcome.due
       → DueOf D (through jobs o dead outcome).due
   through_due jobs None dead outcome h = tt

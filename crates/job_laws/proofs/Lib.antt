@@ -1,7 +1,6 @@
 mod Bounds
 mod Deciding
 mod Due
-mod Journeys
 mod LogLaws
 pub mod OnePort
 mod OneReport

@@ -1,15 +1,14 @@
 -- A log beside a journal: each answer of the port is logged once, and what is logged next of a caller.
-use Rattle.std.proofs.Common.{◌≡◌, ◌≢◌, ◌≤◌, ◌<◌, ◌⊎◌, inl, inr, ℕ, ◌+◌, ◌-◌, ◌==◌, Bool, List}
+use Rattle.std.proofs.Common.{◌≡◌, ◌≢◌, ◌≤◌, ◌<◌, ◌⊎◌, inl, inr, ℕ, ◌+◌, ◌-◌, Bool, List}
 use Rattle.std.proofs.Common.{[], ◌∷◌, length, drop, if◌then◌else◌, refl, sym, ap, ◌∙◌}
 use Rattle.std.proofs.Common.{subst, arith}
 use Rattle.std.specs.Prelude.{slice_index_or, slice_set}
 use Rattle.std.proofs.lemmas.Bool.{eq-eqb, ne_eqb, cases_eq}
-use Rattle.tty_calls.specs.declared.journals.Who.{Who}
 use Rattle.tty_calls.specs.declared.journals.Who.TheVariants.{Caller}
-use Rattle.tty_calls.specs.Plain.{PlainAnswer, done, PlainEvent, PlainEntry}
+use Rattle.tty_calls.specs.Plain.{PlainAnswer, done}
 use Rattle.job_control.specs.declared.answers.JobAnswer.{JobAnswer}
 use Rattle.passed_calls.specs.declared.logs.Logged.{Logged}
-use Rattle.passed_calls.specs.Journals.{terminal_at, IsAnswerBy, IsAnswerAt}
+use Rattle.passed_calls.specs.Journals.{terminal_at}
 use Rattle.job_text.specs.Events.{JobEvent, own, passed, passed_down, sent, JobLog}
 use Rattle.job_steps.specs.Steps.{Port, JobsState, jobs_before, proc_of, next_of, next_call, after_own, after_passed}
 use Rattle.job_steps.specs.Steps.{after_event, IsOwn, IsPassed, IsPassedDown, IsAllowed, Leads}
@@ -19,11 +18,8 @@ use Rattle.tty_calls.specs.Sessions.{PlainSession}
 use Rattle.passed_laws.proofs.Steps.{step_other}
 use Rattle.job_one.proofs.Keeping.{own_keeps, passed_keeps}
 use Rattle.job_laws.proofs.Due.{DueOf, IsBy, event_due}
-use Rattle.job_laws.proofs.Journeys.{answers_of, answers_in, answers_later, drop_one}
+use Rattle.passed_laws.proofs.Journeys.{answers_in, one_for, answer_there, fewer_later}
 use Rattle.job_laws.proofs.ReadLaws.{at_now}
-
-abbrev pub one_for : ℕ → ℕ → ℕ
-one_for c d = if d == c then 1 else 0
 
 -- how often the port's answer to a caller was logged, of a call or of the hangup of its end
 abbrev pub passed_by : ℕ → JobEvent → ℕ
@@ -43,32 +39,6 @@ needs_from l (passed d step answer) = l.at - 1
 needs_from l (passed_down d handle) = l.at - 1
 needs_from l (sent signal target) = l.at
 
--- an answer is one
-pub answer_one : (c d : ℕ) (answer : PlainAnswer) (e : PlainEntry)
-    → IsAnswerBy d answer e
-    → answers_of c e ≡ one_for c d
-answer_one c d answer e h = λ i. one_of (h.0 i) (h.1.1 i)
-  where
-    one_of : Who → PlainEvent → ℕ
-    one_of who event = answers_of c (record e { who = who; event = event })
-
--- from an entry that is an answer on there is one more
-pub answer_there : (port : Port) (c d at : ℕ) (answer : PlainAnswer)
-    → IsAnswerAt port.journal d at answer
-    → answers_in c (drop (at - 1) port.journal.entries)
-    ≡ one_for c d + answers_in c (drop at port.journal.entries)
-answer_there port c d at answer h =
-    let some = h.some in
-    let here = ap (λ (es : List PlainEntry). answers_in c es)
-    (drop_one (at - 1) port.journal.entries h.entry h.stands) in
-    let same : (at - 1) + 1 ≡ at = omega (arith, some) in
-    let rest = ap (λ (n : ℕ). answers_in c (drop n port.journal.entries)) same in
-    let one = answer_one c d answer h.entry h.is_answer in
-    omega (arith, here, rest, one)
-
-pub fewer_later : (c n m : ℕ) (es : List PlainEntry) → n ≤ m → answers_in c (drop m es) ≤ answers_in c (drop n es)
-fewer_later c n m es le = (let parts = answers_later c n m es le in omega (arith, parts))
-
 one_bounds : (port : Port) (s : JobsState) (l : Logged JobEvent) (event : JobEvent) (c k rest : ℕ)
     → IsAllowed port s l.at event
     → k ≤ needs_from l event
@@ -77,11 +47,11 @@ one_bounds : (port : Port) (s : JobsState) (l : Logged JobEvent) (event : JobEve
 one_bounds port s l (own d step answer) c k rest h le few =
     (let fewer = fewer_later c k l.at port.journal.entries le in omega (arith, fewer, few))
 one_bounds port s l (passed d step answer) c k rest h le few =
-    (let there = answer_there port c d l.at answer h.entry in
+    (let there = answer_there port.journal c d l.at answer h.entry in
     let fewer = fewer_later c k (l.at - 1) port.journal.entries le in
     omega (arith, there, fewer, few))
 one_bounds port s l (passed_down d handle) c k rest h le few =
-    (let there = answer_there port c d l.at done h.entry in
+    (let there = answer_there port.journal c d l.at done h.entry in
     let fewer = fewer_later c k (l.at - 1) port.journal.entries le in
     omega (arith, there, fewer, few))
 one_bounds port s l (sent signal target) c k rest h le few =

@@ -12,12 +12,12 @@ use Rattle.tty_terminal.specs.Terminals.{Terminal, opening, caller_at}
 use Rattle.tty_terminal.specs.Standing.{Standing, standing_in, at_first}
 use Rattle.tty_terminal.specs.Runs.{Leads as Run}
 use Rattle.tty_terminal.proofs.StandingLaws.{run_stands}
-use Rattle.journal_check.specs.Legal.{flip_on}
-use Rattle.one_thread.specs.Order.{Place, first_place}
-use Rattle.one_thread.proofs.Places.{phase_from, leads_phase, leads_place}
+use Rattle.legal_runs.specs.Legal.{flip_on}
+use Rattle.one_order.specs.Order.{Place, first_place}
+use Rattle.one_order.proofs.Places.{phase_from, leads_phase, leads_place}
 use Rattle.order_laws.specs.Growth.{HasShape}
 use Rattle.order_laws.proofs.Growing.{place_same}
-use Rattle.order_laws.proofs.OneRun.{comes_to, two_runs}
+use Rattle.order_laws.proofs.OneRun.{comes_to, two_runs, keeps_order}
 use Rattle.passed_calls.specs.Blocks.{names_on}
 use Rattle.passed_calls.specs.Derived.{Passing, BlockPhase, blocks_of, by_caller, all_calls}
 use Rattle.passed_calls.specs.Logs.{logged_on}
@@ -31,11 +31,14 @@ use Rattle.job_steps.specs.Derived.{block_phases, job_call_at, passings_on, deri
 use Rattle.job_steps.specs.Steps.{Port, JobsState, first_state, Leads}
 use Rattle.job_one.specs.Played.{port_in}
 use Rattle.job_one.proofs.Begins.{blocks_all, steps_begin}
-use Rattle.job_laws.specs.OneRun.{IsPlayedWhole, IsSamePort}
-use Rattle.job_laws.proofs.Bounds.{few_steps, few_passed, next_below}
-use Rattle.job_laws.proofs.Journeys.{Journey, answers_in, next_in}
+use Rattle.passed_laws.specs.Same.{IsSamePort}
+use Rattle.job_laws.specs.OneRun.{IsPlayedWhole}
+use Rattle.passed_laws.proofs.Fewer.{few_steps, next_below}
+use Rattle.job_laws.proofs.Bounds.{few_passed}
+use Rattle.passed_laws.proofs.Journeys.{Journey, answers_in, next_in}
 use Rattle.job_laws.proofs.LogLaws.{passed_in, few_logged, IsPast}
-use Rattle.job_laws.proofs.OneReport.{Are, Stand, stay_alike, there, turned}
+use Rattle.passed_laws.proofs.Together.{Stand}
+use Rattle.job_laws.proofs.OneReport.{Are, stay_alike, there, turned}
 use Rattle.job_laws.proofs.Settling.{IsFrom, Here}
 use Rattle.job_laws.proofs.TwoLogs.{named, Both, settles}
 use Rattle.job_laws.proofs.Whole.{all_steps, Whole}
@@ -220,8 +223,7 @@ module _ (p : ℕ) (session : JobsSession) (log other : JobLog) (run again : Por
   AreHere = Are p session D D' J J' t u h.logged.run.last h'.logged.run.last w w' shape (logged_on p log)
       (logged_on p other)
 
-  stand_first : Stand p session D D' J J' t u h.logged.run.last h'.logged.run.last w w' shape (logged_on p log)
-      (logged_on p other) (first_place p D) 0
+  stand_first : Stand p D D' J J' t u w.journey w'.journey (first_place p D) 0
   stand_first = record {
     place = refl;
     place' = place_same p D D' shape;
@@ -262,7 +264,9 @@ module _ (p : ℕ) (session : JobsSession) (log other : JobLog) (run again : Por
   one_port =
       let ran = two_runs p D D' run again t u AreHere shape (blocks'.ticks ∙ sym blocks.ticks)
       (stay_alike p session D D' J J' t u h.logged.run.last h'.logged.run.last w w' shape (logged_on p log)
-      (logged_on p other)) h.legal h'.legal h.in_order h'.in_order are_first in
+      (logged_on p other)) h.legal h'.legal
+      (keeps_order p D J run.line.overruns.items h.in_order) (keeps_order p D' J' again.line.overruns.items h'.in_order)
+      are_first in
       let a = ran.1.are in
       let le = none_dropped a.n J a.left in
       let le' = none_dropped a.n J' a.left' in

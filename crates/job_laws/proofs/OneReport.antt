@@ -1,30 +1,21 @@
 -- A session of processes has one run on a port: two whole runs, each with its log, are the same, log and all.
-use Rattle.std.proofs.Common.{◌≡◌, ◌≤◌, ◌<◌, ◌⊎◌, inl, inr, ℕ, ◌+◌, ◌-◌, Bool, true, false}
+use Rattle.std.proofs.Common.{◌≡◌, inl, inr, ℕ, ◌+◌, ◌-◌, Bool, true, false}
 use Rattle.std.proofs.Common.{List, []}
-use Rattle.std.proofs.Common.{◌∷◌, ◌++◌, Option, None, Some, map, take, drop, if◌then◌else◌, refl}
+use Rattle.std.proofs.Common.{◌∷◌, ◌++◌, Some, map, drop, refl}
 use Rattle.std.proofs.Common.{sym, ap}
 use Rattle.std.proofs.Common.{◌∙◌, subst, arith, append_assoc}
-use Rattle.std.specs.Prelude.{slice_get, sum}
-use Rattle.std.proofs.lemmas.Bool.{false≢true, le-leb, lt-leb, eq-eqb}
+use Rattle.std.specs.Prelude.{slice_get}
 use Rattle.std.proofs.lemmas.Option.{same_Some}
 use Rattle.tty_base.specs.declared.characters.Flagged.{Flagged}
-use Rattle.tty_calls.specs.declared.journals.Who.{Who}
-use Rattle.tty_calls.specs.declared.journals.Who.TheVariants.{Caller, Flusher, Line, Clock, Session}
-use Rattle.tty_calls.specs.Plain.{PlainCall, hangs_up, PlainAnswer, done, PlainEvent, answered, parted, waited, flushed}
-use Rattle.tty_calls.specs.Plain.{ticked, line_ended, clock_ended, caller_ended, phase_ended, hung_up, PlainEntry}
-use Rattle.tty_calls.specs.Plain.{is_caller}
+use Rattle.tty_calls.specs.declared.journals.Who.TheVariants.{Caller}
+use Rattle.tty_calls.specs.Plain.{PlainCall, hangs_up, PlainAnswer, done, answered}
+use Rattle.tty_calls.specs.Plain.{PlainEntry}
 use Rattle.tty_calls.specs.Sessions.{PlainSession, call_at, counts_on}
-use Rattle.tty_terminal.specs.Terminals.{Terminal, opening, caller_at, has_begun}
-use Rattle.tty_terminal.specs.Standing.{Standing, standing_of, standing_after_own, standing_after_other, standing_after}
-use Rattle.tty_terminal.specs.Steps.{IsAllowed, Allowed}
+use Rattle.tty_terminal.specs.Terminals.{Terminal, caller_at, has_begun}
 use Rattle.tty_terminal.specs.Runs.{is_of_call, AgreesAt}
-use Rattle.tty_terminal.proofs.StandingLaws.{step_stands}
-use Rattle.tty_terminal.proofs.WaitLaws.{run_waits}
-use Rattle.journal_check.specs.Legal.{first_step, steps_in, flip_on, IsInPhase, is_caller_end}
-use Rattle.one_thread.specs.Order.{Place, first_place, next_place, place_after, turn, is_waiting}
-use Rattle.one_thread.proofs.Places.{place_more, leads_place}
+use Rattle.one_order.specs.Order.{Place, next_place, turn}
 use Rattle.order_laws.specs.Growth.{HasShape}
-use Rattle.order_laws.proofs.Growing.{WaitAlike, turn_same}
+use Rattle.order_laws.proofs.Growing.{turn_same}
 use Rattle.order_laws.proofs.OneRun.{IsRest, coming_call, StayAlike}
 use Rattle.passed_calls.specs.declared.logs.Logged.{Logged}
 use Rattle.passed_calls.specs.Journals.{terminal_at, IsAnswerAt}
@@ -37,147 +28,18 @@ use Rattle.job_steps.specs.Steps.{IsAllowed as IsLogAllowed}
 use Rattle.job_steps.specs.Steps.{after_event}
 use Rattle.job_steps.specs.Order.{turn_at}
 use Rattle.job_one.specs.Played.{port_in}
-use Rattle.job_laws.proofs.Deciding.{decides, caller_event}
-use Rattle.job_laws.proofs.Journeys.{answer_count, answers_of, to_here, get_here, take_one, call_step}
-use Rattle.job_laws.proofs.Journeys.{other_next}
-use Rattle.job_laws.proofs.Journeys.{who_is}
-use Rattle.job_laws.proofs.Journeys.{other_begun}
-use Rattle.job_laws.proofs.LogLaws.{passed_by, answer_one}
+use Rattle.job_laws.proofs.Deciding.{decides, who_of}
+use Rattle.passed_laws.proofs.Journeys.{answer_count, answers_of, get_here}
+use Rattle.passed_laws.proofs.Journeys.{answer_one}
+use Rattle.passed_laws.proofs.Comings.{end_comes, begun_calls, at_step, calls_come as both_come, IsAnswered}
+use Rattle.passed_laws.proofs.Comings.{answer_or_not, none_of, one_of, same_number}
+use Rattle.passed_laws.proofs.Together.{Stand, terminal_of as one_terminal, terminal_of' as two_terminal}
+use Rattle.passed_laws.proofs.Together.{there as both_there, waits as both_wait, stand_next as stands_next}
+use Rattle.job_laws.proofs.LogLaws.{passed_by}
 use Rattle.job_laws.proofs.Settling.{Here, due_head, due_event, no_due}
 use Rattle.job_laws.proofs.Stepping.{quiet_on, AnswerHead, answer_head, answer_on}
 use Rattle.job_laws.proofs.TwoLogs.{DownDue, named, Both, Settled, same_after, settles}
 use Rattle.job_laws.proofs.Whole.{Whole}
-
--- ---- what comes of a caller
-
-coming_some : (p : ℕ) (session : PlainSession) (s : Place) (c : ℕ)
-    → (caller_at s.terminal c).next
-    < first_step p session s.terminal.phase c + steps_in p session s.terminal.phase c
-    → coming_call p session s c ≡ Some (call_at p session c (caller_at s.terminal c).next)
-coming_some p session s c lt =
-    ap (λ (b : Bool). if b then None else Some (call_at p session c (caller_at s.terminal c).next))
-    (lt-leb (first_step p session s.terminal.phase c + steps_in p session s.terminal.phase c)
-    (caller_at s.terminal c).next lt)
-
-coming_none : (p : ℕ) (session : PlainSession) (s : Place) (c : ℕ)
-    → first_step p session s.terminal.phase c + steps_in p session s.terminal.phase c
-    ≤ (caller_at s.terminal c).next
-    → coming_call p session s c ≡ None
-coming_none p session s c le =
-    ap (λ (b : Bool). if b then None else Some (call_at p session c (caller_at s.terminal c).next))
-    (le-leb (first_step p session s.terminal.phase c + steps_in p session s.terminal.phase c)
-    (caller_at s.terminal c).next le)
-
--- an entry of a caller in a run
-module _ (p : ℕ) (session : PlainSession) (s : Place) (e : PlainEntry) (es : List PlainEntry) (c : ℕ)
-    (rest : IsRest p session s (e ∷ es)) (who : e.who ≡ Caller c) where
-  allowed : IsAllowed (call_at p session) (counts_on p session) s.terminal (Caller c) e.step e.part e.event
-  allowed = subst (λ (w : Who). IsAllowed (call_at p session) (counts_on p session) s.terminal w e.step e.part e.event)
-      who rest.leads.0.1
-
-  in_phase : IsInPhase p session s.terminal.phase (Caller c) e.step e.event
-  in_phase = subst (λ (w : Who). IsInPhase p session s.terminal.phase w e.step e.event) who rest.phases.0
-
-  at_step : is_of_call e.event ≡ true → e.step ≡ (caller_at s.terminal c).next
-  at_step of_call =
-      (call_step (call_at p session) (counts_on p session) s.terminal c e.step e.part e.event allowed of_call).0
-
-  -- a call comes
-  call_comes : is_of_call e.event ≡ true
-      → coming_call p session s c ≡ Some (call_at p session c (caller_at s.terminal c).next)
-  call_comes of_call =
-      let at = at_step of_call in
-      let below = (in_phase.1 of_call).1 in
-      coming_some p session s c (omega (arith, at, below))
-
-  -- its end
-  end_comes : e.event ≡ caller_ended → coming_call p session s c ≡ None
-  end_comes event =
-      let ends : is_caller_end e.event ≡ true = ap is_caller_end event in
-      let past = in_phase.2 ends in
-      let its = subst (λ (x : PlainEvent).
-      IsAllowed (call_at p session) (counts_on p session) s.terminal (Caller c) e.step e.part x) event allowed in
-      let at = its.at_step in
-      coming_none p session s c (omega (arith, past, at))
-
-  -- who has begun a call does not end
-  begun_calls : has_begun (caller_at s.terminal c) ≡ true → is_of_call e.event ≡ true
-  begun_calls begun =
-      elim (caller_event (call_at p session) (counts_on p session) s.terminal c e.step e.part e.event allowed) [
-        | inl of_call ↦ of_call
-        | inr event ↦
-            let its = subst (λ (x : PlainEvent).
-            IsAllowed (call_at p session) (counts_on p session) s.terminal (Caller c) e.step e.part x) event allowed in
-            absurd (false≢true (sym its.between ∙ begun))
-      ]
-
--- ---- a caller that has begun a call behind an entry of its own
-
-own_begins : (event : PlainEvent) (g : ℕ) (q : Standing)
-    → (standing_after_own event g q).begun ≡ true
-    → ((standing_after_own event g q).next ≡ q.next) × ((is_of_call event ≡ true) ⊎ (q.begun ≡ true))
-own_begins (answered a dropped) g q begun = absurd (false≢true begun)
-own_begins (parted n) g q begun = (refl, inl refl)
-own_begins waited g q begun = (refl, inl refl)
-own_begins (flushed chars) g q begun = (refl, inr begun)
-own_begins ticked g q begun = (refl, inr begun)
-own_begins (line_ended n) g q begun = (refl, inr begun)
-own_begins clock_ended g q begun = (refl, inr begun)
-own_begins caller_ended g q begun = (refl, inr begun)
-own_begins phase_ended g q begun = (refl, inr begun)
-own_begins (hung_up dropped) g q begun = (refl, inr begun)
-
--- ---- an answer, or none
-
-pub record IsAnswered (e : PlainEntry) : Type 0 where
-  pub caller : ℕ
-  pub who : e.who ≡ Caller caller
-  pub one : answer_count e.event ≡ 1
-
-answer_who : (f : ℕ → ℕ → Option PlainCall) (counts : List ℕ) (t : Terminal) (who : Who) (step part : ℕ)
-    (a : PlainAnswer) (dropped : List Flagged)
-    → IsAllowed f counts t who step part (answered a dropped)
-    → (c : ℕ) × (who ≡ Caller c)
-answer_who f counts t (Caller c) step part a dropped h = (c, refl)
-answer_who f counts t Flusher step part a dropped h = absurd h
-answer_who f counts t Line step part a dropped h = absurd h
-answer_who f counts t Clock step part a dropped h = absurd h
-answer_who f counts t Session step part a dropped h = absurd h
-
-answer_or_not : (f : ℕ → ℕ → Option PlainCall) (counts : List ℕ) (t : Terminal) (e : PlainEntry)
-    → Allowed f counts t e
-    → IsAnswered e ⊎ (answer_count e.event ≡ 0)
-answer_or_not f counts t e h = by_event e.event refl
-  where
-    by_event : (event : PlainEvent) → e.event ≡ event → IsAnswered e ⊎ (answer_count e.event ≡ 0)
-    by_event (answered a dropped) is =
-        let who = answer_who f counts t e.who e.step e.part a dropped
-        (subst (λ (x : PlainEvent). IsAllowed f counts t e.who e.step e.part x) is h.1) in
-        inl (record { caller = who.0; who = who.1; one = ap answer_count is })
-    by_event (parted n) is = inr (ap answer_count is)
-    by_event waited is = inr (ap answer_count is)
-    by_event (flushed chars) is = inr (ap answer_count is)
-    by_event ticked is = inr (ap answer_count is)
-    by_event (line_ended n) is = inr (ap answer_count is)
-    by_event clock_ended is = inr (ap answer_count is)
-    by_event caller_ended is = inr (ap answer_count is)
-    by_event phase_ended is = inr (ap answer_count is)
-    by_event (hung_up dropped) is = inr (ap answer_count is)
-
-none_of : (d : ℕ) (e : PlainEntry) → answer_count e.event ≡ 0 → answers_of d e ≡ 0
-none_of d e none = by_test (is_caller e.who d)
-  where
-    by_test : (b : Bool) → (if b then answer_count e.event else 0) ≡ 0
-    by_test true = none
-    by_test false = refl
-
-one_of : (c : ℕ) (e : PlainEntry) → e.who ≡ Caller c → answer_count e.event ≡ 1 → answers_of c e ≡ 1
-one_of c e who one =
-    ap (λ (b : Bool). if b then answer_count e.event else 0) (ap (λ (w : Who). is_caller w c) who ∙ eq-eqb c c refl)
-    ∙ one
-
-same_number : {a b : ℕ} → Caller a ≡ Caller b → a ≡ b
-same_number e = cc
 
 -- ---- the event behind an answer
 
@@ -292,47 +154,29 @@ module _ (p : ℕ) (session : JobsSession) (played later : PlainSession) (journa
   abbrev two : Port
   two = port_in session later p other
 
-  -- both have come to a place of the order, and the calls that have begun are the same
-  pub record Stand (s : Place) (n : ℕ) : Type 0 where
-    pub place : s ≡ place_after (call_at p played) (first_place p played) (take n journal)
-    pub place' : s ≡ place_after (call_at p later) (first_place p later) (take n other)
-    pub begun : (c : ℕ)
-        → has_begun (caller_at s.terminal c) ≡ true
-        → call_at p played c (caller_at s.terminal c).next ≡ call_at p later c (caller_at s.terminal c).next
+  -- both have come to a place of the order
+  abbrev pub StandAt : Place → ℕ → Type 0
+  StandAt s n = Stand p played later journal other last last' w.journey w'.journey s n
 
-  terminal_of : (s : Place) (n : ℕ) → Stand s n → s.terminal ≡ terminal_at one.journal n
-  terminal_of s n h =
-      ap (λ (x : Place). x.terminal) h.place
-      ∙ leads_place (call_at p played) (counts_on p played) (first_place p played)
-      (opening (sum (counts_on p played)) (flip_on p played)) (take n journal) (terminal_at one.journal n) refl
-      (to_here p played (opening (sum (counts_on p played)) (flip_on p played)) last journal w.journey n)
+  terminal_of : (s : Place) (n : ℕ) → StandAt s n → s.terminal ≡ terminal_at one.journal n
+  terminal_of s n h = one_terminal p played later journal other last last' w.journey w'.journey s n h
 
-  terminal_of' : (s : Place) (n : ℕ) → Stand s n → s.terminal ≡ terminal_at two.journal n
-  terminal_of' s n h =
-      ap (λ (x : Place). x.terminal) h.place'
-      ∙ leads_place (call_at p later) (counts_on p later) (first_place p later)
-      (opening (sum (counts_on p later)) (flip_on p later)) (take n other) (terminal_at two.journal n) refl
-      (to_here p later (opening (sum (counts_on p later)) (flip_on p later)) last' other w'.journey n)
+  terminal_of' : (s : Place) (n : ℕ) → StandAt s n → s.terminal ≡ terminal_at two.journal n
+  terminal_of' s n h = two_terminal p played later journal other last last' w.journey w'.journey s n h
 
-  pub there : (s : Place) (n : ℕ) → Stand s n → terminal_at one.journal n ≡ terminal_at two.journal n
-  there s n h = sym (terminal_of s n h) ∙ terminal_of' s n h
+  pub there : (s : Place) (n : ℕ) → StandAt s n → terminal_at one.journal n ≡ terminal_at two.journal n
+  there s n h = both_there p played later journal other last last' w.journey w'.journey s n h
 
-  waits : (s : Place) (n : ℕ) → Stand s n → WaitAlike p played later s.terminal
-  waits s n h c waiting =
-      let begun = run_waits (call_at p played) (counts_on p played) (flip_on p played) (take n journal)
-      (terminal_at one.journal n)
-      (to_here p played (opening (sum (counts_on p played)) (flip_on p played)) last journal w.journey n) c
-      (subst (λ (t : Terminal). is_waiting t c ≡ true) (terminal_of s n h) waiting) in
-      h.begun c (subst (λ (t : Terminal). has_begun (caller_at t c) ≡ true) (sym (terminal_of s n h)) begun)
-
-  pub turned : (s : Place) (n : ℕ) → Stand s n → turn_at played one n ≡ turn_at later two n
+  pub turned : (s : Place) (n : ℕ) → StandAt s n → turn_at played one n ≡ turn_at later two n
   turned s n h =
       ap (λ (x : Place). turn p played x) (sym h.place)
-      ∙ (turn_same p played later s shape (waits s n h) ∙ ap (λ (x : Place). turn p later x) h.place')
+      ∙ (turn_same p played later s shape
+      (both_wait p played later journal other last last' w.journey w'.journey s n h)
+      ∙ ap (λ (x : Place). turn p later x) h.place')
 
   pub record Are (s : Place) (es es' : List PlainEntry) : Type 0 where
     pub n : ℕ
-    pub stand : Stand s n
+    pub stand : StandAt s n
     pub left : es ≡ drop n journal
     pub left' : es' ≡ drop n other
     pub settled : Settled p session played later journal other last last' end end' w w' whole whole' n
@@ -354,8 +198,7 @@ module _ (p : ℕ) (session : JobsSession) (played later : PlainSession) (journa
         → call_at p played c (caller_at s.terminal c).next ≡ call_at p later c (caller_at s.terminal c).next
         → coming_call p played s c ≡ coming_call p later s c
     calls_come of_call of_call' same =
-        call_comes p played s e es c rest who of_call
-        ∙ (ap (λ (o : Option PlainCall). Some o) same ∙ sym (call_comes p later s e' es' c rest' who' of_call'))
+        both_come p played later s e e' es es' c rest rest' who who' of_call of_call' same
 
     down_comes : DownDue are.settled.both.state → coming_call p played s c ≡ coming_call p later s c
     down_comes down =
@@ -443,60 +286,9 @@ module _ (p : ℕ) (session : JobsSession) (played later : PlainSession) (journa
     e_here' : slice_get other n ≡ Some e
     e_here' = (get_here n other es' e (sym are.left')).0
 
-    -- a caller that has begun a call then
-    stands_next : (c : ℕ)
-        → standing_of (caller_at goes_on.terminal c) ≡ standing_after c e (standing_of (caller_at s.terminal c))
-    stands_next c = step_stands (call_at p played) (counts_on p played) s.terminal e rest.leads.0 c
-
-    begun_by : (c : ℕ) (b : Bool)
-        → is_caller e.who c ≡ b
-        → has_begun (caller_at goes_on.terminal c) ≡ true
-        → call_at p played c (caller_at goes_on.terminal c).next
-        ≡ call_at p later c (caller_at goes_on.terminal c).next
-    begun_by c false is begun =
-        let q = standing_of (caller_at s.terminal c) in
-        let stands : standing_of (caller_at goes_on.terminal c) ≡ standing_after_other e.event q =
-        stands_next c
-        ∙ ap (λ (b : Bool).
-        if b then standing_after_own e.event e.generation q else standing_after_other e.event q) is in
-        let step : (caller_at goes_on.terminal c).next ≡ (caller_at s.terminal c).next =
-        ap (λ (x : Standing). x.next) stands ∙ other_next e.event q in
-        let before : has_begun (caller_at s.terminal c) ≡ true =
-        sym (ap (λ (x : Standing). x.begun) stands ∙ other_begun e.event q) ∙ begun in
-        ap (λ (m : ℕ). call_at p played c m) step
-        ∙ (are.stand.begun c before ∙ ap (λ (m : ℕ). call_at p later c m) (sym step))
-    begun_by c true is begun =
-        let q = standing_of (caller_at s.terminal c) in
-        let stands : standing_of (caller_at goes_on.terminal c) ≡ standing_after_own e.event e.generation q =
-        stands_next c
-        ∙ ap (λ (b : Bool).
-        if b then standing_after_own e.event e.generation q else standing_after_other e.event q) is in
-        let own = own_begins e.event e.generation q (sym (ap (λ (x : Standing). x.begun) stands) ∙ begun) in
-        let step : (caller_at goes_on.terminal c).next ≡ (caller_at s.terminal c).next =
-        ap (λ (x : Standing). x.next) stands ∙ own.0 in
-        let here : call_at p played c (caller_at s.terminal c).next ≡ call_at p later c (caller_at s.terminal c).next =
-        elim own.1 [
-          | inl of_call ↦
-              let at = at_step p played s e es c rest (who_is e.who c is) of_call in
-              ap (λ (m : ℕ). call_at p played c m) (sym at)
-              ∙ (sym (agrees c of_call is) ∙ ap (λ (m : ℕ). call_at p later c m) at)
-          | inr before ↦ are.stand.begun c before
-        ] in
-        ap (λ (m : ℕ). call_at p played c m) step ∙ (here ∙ ap (λ (m : ℕ). call_at p later c m) (sym step))
-
-    stand_next : Stand goes_on (n + 1)
-    stand_next = record {
-      place = (ap (λ (x : Place). next_place (call_at p played) x e) are.stand.place
-          ∙ sym (place_more (call_at p played) (first_place p played) (take n journal) e))
-          ∙ ap (λ (xs : List PlainEntry). place_after (call_at p played) (first_place p played) xs)
-          (sym (take_one n journal e e_here));
-      place' = sym next
-          ∙ ((ap (λ (x : Place). next_place (call_at p later) x e) are.stand.place'
-          ∙ sym (place_more (call_at p later) (first_place p later) (take n other) e))
-          ∙ ap (λ (xs : List PlainEntry). place_after (call_at p later) (first_place p later) xs)
-          (sym (take_one n other e e_here')));
-      begun = λ c begun. begun_by c (is_caller e.who c) refl begun;
-    }
+    stand_next : StandAt goes_on (n + 1)
+    stand_next = stands_next p played later journal other last last' w.journey w'.journey s e es n are.stand e_here
+        e_here' rest agrees next
 
     abbrev BothAt : ℕ → Type 0
     BothAt m = Both p session played later journal other last last' end end' w w' whole whole' m
@@ -605,7 +397,10 @@ module _ (p : ℕ) (session : JobsSession) (played later : PlainSession) (journa
 
   pub stay_alike : StayAlike p played later Are
   stay_alike = record {
-    waiting = λ s es es' are. waits s are.n are.stand;
+    same_who = λ s e e' es es' are rest rest'.
+        who_of p session played journal last end w are.n e (get_here are.n journal es e (sym are.left)).0
+        ∙ (turned s are.n are.stand
+        ∙ sym (who_of p session later other last' end' w' are.n e' (get_here are.n other es' e' (sym are.left')).0));
     coming = λ s e e' es es' c are rest rest' who who'. comes s e e' es es' c are rest rest' who who';
     on = λ s e es es' are rest rest' agrees next. are_next s e es es' are rest rest' agrees next;
   }

@@ -28,7 +28,7 @@ use Rattle.job_text.specs.Events.{JobEvent, own, passed, passed_down, sent, JobL
 use Rattle.job_text.specs.Sessions.{JobCall}
 use Rattle.job_steps.specs.Derived.{job_call_at}
 use Rattle.job_steps.specs.Steps.{Port, JobsState, first_state, jobs_before, proc_of, next_call, after_own, after_event}
-use Rattle.job_steps.specs.Steps.{OwnAnswer, GoesOn, is_usable, is_of_step, first_place, IsAllowed, IsPassed, Leads}
+use Rattle.job_steps.specs.Steps.{OwnAnswer, WentToPort, is_usable, is_of_step, first_place, IsAllowed, IsPassed, Leads}
 use Rattle.job_steps.specs.Steps.{IsJobsRun}
 use Rattle.job_steps.proofs.Moments.{now_before, after_passed_now, event_behind}
 use Rattle.job_laws.specs.Sending.{state_after, logged_by, jobs_at, IsReadPassed}
@@ -182,9 +182,9 @@ read_in_front port log last c entries leads h =
     let early : entries < h.event.at = omega (arith, some, below, place) in
     let call : next_call port u c ≡ Some (plain (reads h.handle h.count)) =
     ap (λ (n : ℕ). job_call_at port.number port.session c n) (sym is.next) ∙ h.call in
-    let goes : GoesOn port u entries c (Some (plain (reads h.handle h.count))) =
-    subst (λ (o : Option JobCall). GoesOn port u entries c o) call
-    (subst (λ (n : ℕ). GoesOn port u n c (next_call port u c)) place is.goes_on) in
+    let goes : WentToPort port u entries c (Some (plain (reads h.handle h.count))) =
+    subst (λ (o : Option JobCall). WentToPort port u entries c o) call
+    (subst (λ (n : ℕ). WentToPort port u n c (next_call port u c)) place is.goes_on) in
     let t = terminal_at port.journal entries in
     let in_front = read_passes (jobs_before port u entries) (proc_of port c) (is_usable may_read (handle_at t h.handle))
     (has_flag t.modes TOSTOP) h.usable goes in

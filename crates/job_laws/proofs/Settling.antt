@@ -21,8 +21,8 @@ use Rattle.job_steps.specs.Steps.{IsOwn, IsPassed, IsPassedDown, IsRaised, IsSen
 use Rattle.job_steps.specs.Steps.{after_event, raised_at, foreground_target, Leads}
 use Rattle.job_steps.specs.Order.{turn_at, AreSent, IsEventInTurn, AreEventsInTurn}
 use Rattle.job_one.proofs.Rising.{raised_rise}
-use Rattle.job_laws.proofs.Journeys.{answers_in}
-use Rattle.job_laws.proofs.LogLaws.{one_for, passed_by, passed_in, answer_there, fewer_later, IsPast}
+use Rattle.passed_laws.proofs.Journeys.{answers_in, one_for, answer_there, fewer_later}
+use Rattle.job_laws.proofs.LogLaws.{passed_by, passed_in, IsPast}
 use Rattle.job_laws.proofs.ReadLaws.{at_now}
 
 -- each event comes behind no fewer entries
@@ -140,7 +140,7 @@ answer_late played port end u log n d at answer h is behind from = elim (cases_l
   | inl lt ↦ lt
   | inr ge ↦
       let same : at ≡ n = omega (arith, from, ge) in
-      let there = answer_there port d d at answer is in
+      let there = answer_there port.journal d d at answer is in
       let self : one_for d d ≡ 1 = ap one_if (eq-eqb d d refl) in
       let before = fewer_later d u.now.at (at - 1) port.journal.entries (omega (arith, behind)) in
       let here = ap (λ (m : ℕ). answers_in d (drop m port.journal.entries)) same in

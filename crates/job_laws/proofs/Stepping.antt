@@ -13,8 +13,8 @@ use Rattle.passed_calls.specs.declared.logs.Logged.{Logged}
 use Rattle.passed_calls.specs.Journals.{IsAnswerAt}
 use Rattle.job_text.specs.Events.{JobEvent, own, passed, passed_down, sent, JobLog}
 use Rattle.job_steps.specs.Steps.{Port, JobsState, after_event, IsPassed, IsPassedDown, IsAllowed}
-use Rattle.job_laws.proofs.Journeys.{answers_of, answers_in, drop_one}
-use Rattle.job_laws.proofs.LogLaws.{one_for, passed_by, passed_in, needs_from, few_from, IsPast}
+use Rattle.passed_laws.proofs.Journeys.{answers_of, answers_in, drop_one, one_for}
+use Rattle.job_laws.proofs.LogLaws.{passed_by, passed_in, needs_from, few_from, IsPast}
 use Rattle.job_laws.proofs.ReadLaws.{at_now}
 use Rattle.job_laws.proofs.Settling.{IsFrom, Here, from_next}
 

@@ -16,18 +16,17 @@ use Rattle.tty_calls.specs.Sessions.{PlainSession, scripts_over, names_of, call_
 use Rattle.tty_terminal.specs.Terminals.{Terminal, opening}
 use Rattle.tty_terminal.specs.Steps.{nothing_to_flush}
 use Rattle.tty_terminal.specs.Runs.{is_of_call}
-use Rattle.journal_check.specs.Legal.{first_step, steps_in, flip_on}
-use Rattle.one_thread.specs.Order.{Place, first_place as place_first, turn, turn_after}
-use Rattle.one_thread.specs.Order.{turn_by_rank}
-use Rattle.one_thread.specs.Order.{turn_after_event, AreInTurn}
-use Rattle.one_thread.specs.Order.{first_of, can_go_on, is_waiting, callers_of, is_of_consoles, due}
+use Rattle.legal_runs.specs.Legal.{first_step, steps_in, flip_on}
+use Rattle.one_order.specs.Order.{Place, first_place as place_first, turn, turn_after, turn_by_rank, turn_after_event}
+use Rattle.one_order.specs.Order.{AreInTurn, first_of, can_go_on, is_waiting, callers_of, is_of_consoles, due}
 use Rattle.passed_calls.specs.Blocks.{names_on}
 use Rattle.passed_calls.specs.Scripts.{CallerScript, calls_named}
 use Rattle.job_text.specs.Sessions.{JobCall, JobsPhase, JobsSession, blocks_in}
 use Rattle.job_steps.specs.Derived.{scripts_over as job_scripts_over, steps_before, IsStepIn}
 use Rattle.job_steps.specs.Steps.{JobsState, next_of, raised_at}
 use Rattle.job_one.specs.Played.{port_in}
-use Rattle.job_laws.proofs.Journeys.{Journey, answer_count, answers_in}
+use Rattle.passed_laws.proofs.Journeys.{Journey, answer_count, answers_in}
+use Rattle.passed_laws.proofs.Comings.{IsPartBy}
 
 -- ---- the steps of a caller, phase by phase
 
@@ -149,14 +148,6 @@ rank_case first calls callers t c e =
             | inr never ↦ absurd (cc)
           ]
         ]
-
--- an entry is a part of this caller's call
-pub record IsPartBy (c : ℕ) (before : Option PlainEntry) : Type 0 where
-  pub entry : PlainEntry
-  pub is : before ≡ Some entry
-  pub who : entry.who ≡ Caller c
-  pub of_call : is_of_call entry.event ≡ true
-  pub none : answer_count entry.event ≡ 0
 
 after_case : (before : Option PlainEntry) (other : Who) (c : ℕ)
     → turn_after before other ≡ Caller c

@@ -1,10 +1,9 @@
--- A port of a session of processes that was played to its end, and two of them that are the same.
-use Rattle.std.specs.Prelude.{◌≡◌, ℕ}
+-- A port of a session of processes that was played to its end.
+use Rattle.std.specs.Prelude.{ℕ}
 use Rattle.tty_calls.specs.declared.journals.PortRun.{PortRun}
 use Rattle.tty_terminal.specs.Terminals.{Terminal}
-use Rattle.journal_check.specs.Legal.{IsLegal}
-use Rattle.one_thread.specs.Order.{IsInOneOrder}
-use Rattle.order_laws.specs.Lost.{IsSameRun}
+use Rattle.legal_runs.specs.Legal.{IsLegal}
+use Rattle.one_order.specs.Order.{IsInOneOrder}
 use Rattle.passed_calls.specs.Logs.{logged_on}
 use Rattle.job_text.specs.Events.{JobLog}
 use Rattle.job_text.specs.Sessions.{JobsSession}
@@ -21,9 +20,3 @@ pub record IsPlayedWhole (p : ℕ) (session : JobsSession) (log : JobLog) (run :
   pub logged : IsLoggedWhole (port_in session (derived session log) p run.journal.items) log
   pub in_turn : AreEventsInTurn (derived session log) (port_in session (derived session log) p run.journal.items)
       (first_state (port_in session (derived session log) p run.journal.items)) (logged_on p log)
-
--- the same journal and line report, the same terminal at the end, and the same log on the port
-pub record IsSamePort (p : ℕ) (log other : JobLog) (run again : PortRun) (t u : Terminal) : Type 0 where
-  pub run_same : IsSameRun run again
-  pub terminal : t ≡ u
-  pub log_same : logged_on p log ≡ logged_on p other

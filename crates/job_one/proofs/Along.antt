@@ -17,14 +17,14 @@ use Rattle.tty_calls.specs.Plain.{clock_ended, caller_ended, phase_ended, hung_u
 use Rattle.tty_terminal.specs.Terminals.{Terminal, caller_at, has_begun}
 use Rattle.tty_terminal.specs.Standing.{Standing, standing_of, standing_in, standing_after}
 use Rattle.tty_terminal.specs.Standing.{standing_after_own, standing_after_other, at_first}
-use Rattle.tty_terminal.specs.Runs.{Grows, is_flush}
+use Rattle.tty_terminal.specs.Runs.{KnowsMore, is_flush}
 use Rattle.tty_terminal.proofs.StandingLaws.{run_stands}
 use Rattle.port_core.specs.Flips.{after_meeting}
 use Rattle.port_core.specs.Phases.{EndsLine}
 use Rattle.port_core.specs.Ports.{PortValue, IsPort, Denies, call_in, phase_entry}
 use Rattle.one_thread.specs.Acts.{FlushesOnce}
 use Rattle.one_thread.specs.LineInside.{StopsSteps}
-use Rattle.one_thread.specs.Roles.{Scene}
+use Rattle.play_base.specs.Roles.{Scene}
 use Rattle.job_text.specs.Sessions.{JobsSession}
 use Rattle.job_steps.specs.Derived.{passings_on}
 use Rattle.passed_laws.specs.Later.{ComesBy}
@@ -137,8 +137,8 @@ had_same v w same c begun = (
   ap (λ (t : Terminal). (caller_at t c).next) same,
 )
 
-pub same_kept : (v w : PortValue) → w.kept ≡ v.kept → Grows (call_in v.kept) (call_in w.kept)
-same_kept v w same = subst (λ ks. Grows (call_in v.kept) (call_in ks)) (sym same) (λ c step call is. is)
+pub same_kept : (v w : PortValue) → w.kept ≡ v.kept → KnowsMore (call_in v.kept) (call_in w.kept)
+same_kept v w same = subst (λ ks. KnowsMore (call_in v.kept) (call_in ks)) (sym same) (λ c step call is. is)
 
 -- ---- a flush at most, and the signals behind it
 
@@ -286,9 +286,6 @@ alone_more d x y h k = record {
 
 had_more : (u v w : PortValue) (c : ℕ) → HadBegun u v c → HadBegun v w c → HadBegun u w c
 had_more u v w c h k is = (let mid = k is in let first = h mid.0 in (first.0, mid.1 ∙ first.1))
-
-pub sends_none : (v : PortValue) (d : DeskState) → SendsAlong v v d d
-sends_none v d = record { alone = alone_none d; kept = refl; begun = λ c is. (is, refl); each = λ first session up. up }
 
 pub sends_more : (u v w : PortValue) (d x y : DeskState) → SendsAlong u v d x → SendsAlong v w x y → SendsAlong u w d y
 sends_more u v w d x y h k = record {

@@ -16,7 +16,7 @@ use Rattle.tty_terminal.specs.Runs.{Leads as Run, is_of_call}
 use Rattle.tty_terminal.proofs.MarkLaws.{step_maker}
 use Rattle.port_core.specs.Ports.{PortValue, IsPort, call_in}
 use Rattle.passed_calls.specs.Journals.{Journal}
-use Rattle.one_thread.specs.Roles.{Scene}
+use Rattle.play_base.specs.Roles.{Scene}
 use Rattle.one_thread.specs.Turns.{Adds}
 use Rattle.one_thread.specs.Acts.{MakesCall}
 use Rattle.passed_laws.specs.Later.{IsLater, ComesBy}

@@ -15,10 +15,10 @@ use Rattle.tty_terminal.specs.Runs.{is_flush, is_of_call}
 use Rattle.passed_calls.specs.Journals.{Journal}
 use Rattle.port_core.specs.Attempts.{PlainTried, done_by, took_part, must_wait}
 use Rattle.port_core.specs.Ports.{PortValue, IsPort, IsOpen}
-use Rattle.one_thread.specs.Stages.{HasAnyOrder}
+use Rattle.play_base.specs.Scenes.{HasAnyOrder}
 use Rattle.one_thread.specs.Turns.{PlaysOnIn}
 use Rattle.one_thread.specs.Acts.{InCall, TriesCall, PlaysCall}
-use Rattle.one_thread.specs.declared.roles.Role.{Role}
+use Rattle.play_base.specs.declared.roles.Role.{Role}
 use Rattle.one_thread.specs.declared.after_line.Stand.{Stand}
 use Rattle.one_thread.specs.declared.after_line.Turn.TheVariants as turn
 use Rattle.job_control.specs.Control.{JobState, let_go, leader_of}

@@ -11,10 +11,10 @@ use Rattle.tty_calls.specs.Plain.{drains, gets_counts, hangs_up, sends_packet, t
 use Rattle.tty_calls.specs.Plain.{count_is, got, number_is, modes_are, counts_are, refused, idle, PlainEntry}
 use Rattle.tty_terminal.specs.Terminals.{caller_at, has_begun}
 use Rattle.port_core.specs.Ports.{PortValue, IsPort, call_in}
-use Rattle.one_thread.specs.Order.{is_of_consoles}
-use Rattle.one_thread.specs.Roles.{Scene}
+use Rattle.one_order.specs.Order.{is_of_consoles}
+use Rattle.play_base.specs.Roles.{Scene}
 use Rattle.one_thread.specs.Turns.{role_numbers, IsTurn}
-use Rattle.one_thread.specs.declared.roles.Role.{Role}
+use Rattle.play_base.specs.declared.roles.Role.{Role}
 use Rattle.one_thread.specs.declared.after_line.Stand.{Stand}
 use Rattle.one_thread.specs.declared.after_line.Turn.TheVariants as turn
 use Rattle.order_laws.specs.Agreed.{PlaysEach}
@@ -426,10 +426,12 @@ desk_passes first session log old v e c jobs next signals call answer
       at = record {
         logged = subst (λ (o : Option JobCall).
             HasLogged p session (log ++ entry ∷ []) v (answered_for (after_passed u n o answer) c)) here
-            (logs_passed p session log v u d c (caller_at old.terminal c).next call answer port logged_now h.due_are here
+            (logs_passed p session log v u d c (caller_at old.terminal c).next call answer port logged_now h.due_are
+            here
             now_in_phase kept behind was gone);
         ordered =
-            ordered_passed first session log old v e u c (next_of u c) answer was_port by logged_now ordered_now sent_on;
+            ordered_passed first session log old v e u c (next_of u c) answer was_port by logged_now ordered_now
+            sent_on;
         gone_on = λ x begun.
             let other : x ≡ c → ⊥ = λ same.
             false≢true (sym rest ∙ (ap (λ (y : ℕ). has_begun (caller_at v.terminal y)) (sym same) ∙ begun)) in
@@ -447,7 +449,8 @@ desk_passes first session log old v e c jobs next signals call answer
       signals_are = is.signals ∙ h.signals_are;
       due_are = is.due;
       at_once = subst (λ (m : ℕ). ComeAtOnce (due_passed u.now.jobs call answer) m n)
-          (sym (after_passed_now u n (Some (plain call)) answer).0) (come_at_once (due_passed u.now.jobs call answer) n);
+          (sym (after_passed_now u n (Some (plain call)) answer).0)
+          (come_at_once (due_passed u.now.jobs call answer) n);
     } in
     let by_jobs = subst (λ (state : JobState). IsDeskAt first session (log ++ entry ∷ []) v
     (jobs_passed state call answer) (slice_set u.next c (next_of u c + 1)) signals (due_passed state call answer))

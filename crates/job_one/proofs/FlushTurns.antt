@@ -13,10 +13,10 @@ use Rattle.tty_terminal.specs.Terminals.{Terminal}
 use Rattle.tty_terminal.specs.Steps.{Allowed, IsAllowed}
 use Rattle.tty_terminal.specs.Runs.{is_flush}
 use Rattle.port_core.specs.Ports.{PortValue, IsPort, IsOpen, Denies}
-use Rattle.one_thread.specs.Stages.{HasAnyOrder}
+use Rattle.play_base.specs.Scenes.{HasAnyOrder}
 use Rattle.one_thread.specs.Turns.{role_numbers, who_of, PlaysOnIn}
 use Rattle.one_thread.specs.Acts.{AddsEntry, InTurn, PlaysTurn}
-use Rattle.one_thread.specs.declared.roles.Role.{Role}
+use Rattle.play_base.specs.declared.roles.Role.{Role}
 use Rattle.one_thread.specs.declared.after_line.Stand.{Stand}
 use Rattle.one_thread.specs.declared.after_line.Turn.{Turn}
 use Rattle.one_thread.specs.declared.after_line.Turn.TheVariants as turn

@@ -1,15 +1,12 @@
 -- What is passed down follows the log, event by event.
-use Rattle.std.proofs.Common.{◌≡◌, ℕ, Bool, cond, ◌==◌, List, [], ◌∷◌, ◌++◌, Option, map, filter, refl, ap, ◌∙◌}
-use Rattle.std.proofs.lemmas.Bool.{eq-eqb}
-use Rattle.std.proofs.lemmas.List.{map-append}
-use Rattle.std.proofs.lemmas.List.Elements.{filter-append}
+use Rattle.std.proofs.Common.{◌≡◌, ℕ, List, [], ◌∷◌, ◌++◌, Option, refl, ap, ◌∙◌}
 use Rattle.tty_calls.specs.Plain.{hangs_up}
-use Rattle.passed_calls.specs.declared.logs.Logged.{Logged}
 use Rattle.passed_calls.specs.Derived.{Passing}
 use Rattle.job_text.specs.Events.{JobEvent, own, passed, passed_down, sent, JobLog, events_on}
 use Rattle.job_text.specs.Sessions.{JobCall, JobsSession}
 use Rattle.job_steps.specs.Derived.{job_call_at, plain_call, passings_from, passings_on}
 use Rattle.job_one.specs.Latest.{latest_after, latest_on, passings_by}
+use Rattle.passed_laws.proofs.Laters.{events_more}
 
 from_more : (calls : ℕ → ℕ → Option JobCall) (latest : ℕ) (es : List JobEvent) (e : JobEvent)
     → passings_from calls latest (es ++ e ∷ [])
@@ -34,14 +31,6 @@ latest_more latest (own c step answer ∷ es) e = latest_more step es e
 latest_more latest (passed c step answer ∷ es) e = latest_more latest es e
 latest_more latest (passed_down c h ∷ es) e = latest_more latest es e
 latest_more latest (sent signal target ∷ es) e = latest_more latest es e
-
-events_more : (p at : ℕ) (event : JobEvent) (log : JobLog)
-    → events_on p (log ++ record { port = p; at = at; event = event } ∷ []) ≡ events_on p log ++ event ∷ []
-events_more p at event log =
-    let l : Logged JobEvent = record { port = p; at = at; event = event } in
-    ap (map (λ (x : Logged JobEvent). x.event)) (filter-append (λ (x : Logged JobEvent). x.port == p) log (l ∷ [])
-    ∙ ap (λ (b : Bool). filter (λ (x : Logged JobEvent). x.port == p) log ++ cond b (l ∷ []) []) (eq-eqb p p refl))
-    ∙ map-append (λ (x : Logged JobEvent). x.event) (filter (λ (x : Logged JobEvent). x.port == p) log) (l ∷ [])
 
 pub passings_more : (session : JobsSession) (log : JobLog) (p at : ℕ) (event : JobEvent)
     → passings_on session (log ++ record { port = p; at = at; event = event } ∷ []) p

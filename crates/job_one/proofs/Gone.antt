@@ -12,7 +12,7 @@ use Rattle.job_text.specs.Events.{JobEvent, JobLog}
 use Rattle.job_text.specs.Sessions.{JobCall, JobsSession}
 use Rattle.job_steps.specs.Derived.{job_call_at}
 use Rattle.job_steps.specs.Steps.{Port, JobsState, jobs_before, proc_of, next_of}
-use Rattle.job_steps.specs.Steps.{next_call, judged_call, GoesOn, is_of_step, after_event}
+use Rattle.job_steps.specs.Steps.{next_call, judged_call, WentToPort, is_of_step, after_event}
 use Rattle.passed_laws.specs.Later.{IsLater, ComesBy}
 use Rattle.job_one.specs.Later.{port_with, HasLogged, HasGoneOn}
 use Rattle.passed_laws.proofs.Laters.{later_before, terminal_now}
@@ -28,11 +28,11 @@ goes_on_now : (p : ℕ) (session : JobsSession) (log : JobLog) (v w : PortValue)
     → next_call (port_with p session d) u c ≡ Some (plain call)
     → judged_call u.now.jobs v.terminal (proc_of (port_with p session d) c) call ≡ Pass
     → IsLater w j
-    → GoesOn (port_with p session j) u (length v.journal) c (next_call (port_with p session j) u c)
+    → WentToPort (port_with p session j) u (length v.journal) c (next_call (port_with p session j) u c)
 goes_on_now p session log v w part u d j c call port by h is passes later =
     let here = terminal_now v j port (later_before v w part j by later) in
     let jobs = now_before (port_with p session j) u (length v.journal) h.at in
-    subst (λ (o : Option JobCall). GoesOn (port_with p session j) u (length v.journal) c o) (sym is)
+    subst (λ (o : Option JobCall). WentToPort (port_with p session j) u (length v.journal) c o) (sym is)
     ((λ i. judged_call (jobs i) (here i) (proc_of (port_with p session d) c) call) ∙ passes)
 
 pub gone_begins : (p : ℕ) (session : JobsSession) (log : JobLog) (v w : PortValue) (e : PlainEntry)
@@ -68,8 +68,8 @@ gone_stays p session v w part u c step by h =
 
 goes_same : (port : Port) (s t : JobsState) (place c : ℕ) (call : Option JobCall)
     → jobs_before port t place ≡ jobs_before port s place
-    → GoesOn port s place c call
-    → GoesOn port t place c call
+    → WentToPort port s place c call
+    → WentToPort port t place c call
 goes_same port s t place c None same h = h
 goes_same port s t place c (Some (plain call)) same h =
     ap (λ (jobs : JobState). judged_call jobs (terminal_at port.journal place) (proc_of port c) call) same ∙ h
@@ -91,6 +91,6 @@ gone_behind p session v u next event c step comes same h =
           let before : jobs_before port next h.place ≡ jobs_before port u h.place =
           ap (λ (s : JobsState). jobs_before port s h.place) (sym (comes j later))
           ∙ event_behind port u (length v.journal) h.place event (omega (arith, h.within)) in
-          subst (λ (n : ℕ). GoesOn port next h.place c (job_call_at p session c n)) (sym same)
+          subst (λ (n : ℕ). WentToPort port next h.place c (job_call_at p session c n)) (sym same)
           (goes_same port u next h.place c (next_call port u c) before (h.goes_on j later));
     }

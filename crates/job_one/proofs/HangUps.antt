@@ -1,30 +1,21 @@
 -- The hangup for a process that has ended.
-use Rattle.std.proofs.Common.{◌≡◌, ◌≤◌, ◌<◌, ℕ, ◌+◌, Bool, true, false, List, [], ◌∷◌, ◌++◌}
-use Rattle.std.proofs.Common.{Option, None, Some, IsTrue, is_some, length, map, get_or}
-use Rattle.std.proofs.Common.{if◌then◌else◌, refl, sym, ap, ◌∙◌, subst, arith, length-append}
-use Rattle.std.specs.Prelude.{◌&&◌, All, position, slice_get, slice_index_or}
+use Rattle.std.proofs.Common.{◌≡◌, ◌≤◌, ◌<◌, ℕ, ◌+◌, true, false, List, [], ◌∷◌, ◌++◌}
+use Rattle.std.proofs.Common.{Option, None, Some, length, map, get_or}
+use Rattle.std.proofs.Common.{refl, sym, ap, ◌∙◌, subst, arith, length-append}
+use Rattle.std.specs.Prelude.{All, position, slice_get, slice_index_or}
 use Rattle.std.specs.Option.{option_to_list}
-use Rattle.std.proofs.lemmas.Bool.{false≢true}
 use Rattle.std.proofs.lemmas.Option.{get_or_from_slice_get, same_Some}
 use Rattle.std.proofs.lemmas.List.Quantifiers.{position-Some}
+use Rattle.tty_base.specs.Sizes.{MOST_HANDLES}
 use Rattle.tty_base.specs.declared.counters.Signal.{Signal}
-use Rattle.tty_calls.specs.Plain.{PlainCall, hangs_up, PlainAnswer, done, PlainEntry}
-use Rattle.handle_table.specs.declared.HandleState.{HandleState}
+use Rattle.tty_calls.specs.Plain.{hangs_up, done, PlainEntry}
 use Rattle.handle_table.specs.Handles.{is_live}
-use Rattle.tty_terminal.specs.declared.callers.Bound.{Bound}
-use Rattle.tty_terminal.specs.declared.callers.CallerState.{CallerState}
-use Rattle.tty_terminal.specs.Terminals.{Terminal, caller_at, has_begun, handle_at, is_bound, bound_or}
-use Rattle.tty_terminal.specs.Generations.{after_hangup}
-use Rattle.tty_terminal.specs.Outcomes.{Outcome, gives, on_live}
-use Rattle.tty_terminal.specs.Switching.{hangup_outcome}
-use Rattle.tty_terminal.specs.Calls.{outcome, outcome_of}
-use Rattle.tty_terminal.specs.Steps.{Answers, MustWait, TakesPart, quiet}
-use Rattle.port_core.specs.Attempts.{PlainTried, done_by, took_part, must_wait, Attempts}
-use Rattle.port_core.specs.Ports.{PortValue, IsPort, IsOpen, call_in, with_call}
-use Rattle.one_thread.specs.Acts.{InCall, MakesCall, TriesCall, PlaysCall}
-use Rattle.one_thread.specs.Stages.{HasAnyOrder}
+use Rattle.port_core.specs.Attempts.{PlainTried, done_by}
+use Rattle.port_core.specs.Ports.{PortValue, IsPort, IsOpen}
+use Rattle.one_thread.specs.Acts.{InCall, TriesCall, PlaysCall}
+use Rattle.play_base.specs.Scenes.{HasAnyOrder}
 use Rattle.one_thread.specs.Turns.{PlaysOnIn}
-use Rattle.one_thread.specs.declared.roles.Role.{Role}
+use Rattle.play_base.specs.declared.roles.Role.{Role}
 use Rattle.one_thread.specs.declared.after_line.Stand.{Stand}
 use Rattle.one_thread.specs.declared.after_line.Turn.TheVariants as turn
 use Rattle.job_control.specs.declared.answers.JobAnswer.{JobAnswer}
@@ -34,7 +25,7 @@ use Rattle.job_text.specs.Events.{JobEvent, own, passed, passed_down, sent}
 use Rattle.job_text.specs.Sessions.{JobCall, JobsSession}
 use Rattle.job_text.specs.declared.calls.OwnCall.{OwnCall}
 use Rattle.passed_calls.specs.Scripts.{further}
-use Rattle.job_steps.specs.Steps.{Outcome as Came, outcome_of as comes_to}
+use Rattle.job_steps.specs.Steps.{ControlOutcome as Came, outcome_of as comes_to}
 use Rattle.job_steps.specs.Derived.{block_phases, passings_on}
 use Rattle.job_one.specs.declared.controls.Due.{Due}
 use Rattle.job_one.specs.declared.controls.Due.TheVariants as due
@@ -42,7 +33,7 @@ use Rattle.job_one.specs.Controls.{due_events, hangup_due}
 use Rattle.passed_laws.specs.Passed.{begin_of}
 use Rattle.job_one.specs.Latest.{latest_on}
 use Rattle.job_one.specs.Desk.{proc_in, signals_of}
-use Rattle.job_one.specs.Events.{DeskState, noted, all_noted, AreSent, answered_own, own_outcome, controlled}
+use Rattle.job_one.specs.Events.{DeskState, noted, all_noted, AreSignals, answered_own, own_outcome, controlled}
 use Rattle.job_one.specs.Between.{value_at}
 use Rattle.passed_laws.specs.Begun.{begun_at}
 use Rattle.job_one.specs.Playing.{AreLoggedBefore, hangup_with, IsPlayingJobs}
@@ -61,6 +52,7 @@ use Rattle.job_one.proofs.Phasing.{signals_stay}
 use Rattle.job_one.proofs.CallTurns.{call_no_flush}
 use Rattle.job_one.proofs.Turning.{hangup_begins, hangup_goes_on}
 use Rattle.passed_laws.proofs.Witnessed.{in_call}
+use Rattle.passed_laws.proofs.Hangups.{is_done}
 
 -- ---- what is due is signals, and a hangup behind them
 
@@ -74,7 +66,7 @@ due_parts (due.Signal signal target) c least = refl
 due_parts (due.Left target) c least = refl
 due_parts (due.Ended target) c least = refl
 
-pub signals_due : (d : Due) (c : ℕ) → AreSent (due_events d c None)
+pub signals_due : (d : Due) (c : ℕ) → AreSignals (due_events d c None)
 signals_due due.Nothing c = tt
 signals_due (due.Signal signal target) c = tt
 signals_due (due.Left target) c = tt
@@ -90,7 +82,7 @@ least_is (due.Ended target) least h e = e
 
 -- signals tell nothing of steps
 latest_sent : (x : DeskState) (at : ℕ) (es : List JobEvent)
-    → AreSent es
+    → AreSignals es
     → latest_on (all_noted x at es).log x.number ≡ latest_on x.log x.number
 latest_sent x at [] are = refl
 latest_sent x at (own c step answer ∷ es) are = absurd are
@@ -100,7 +92,7 @@ latest_sent x at (sent signal target ∷ es) are =
     latest_sent (noted x at (sent signal target)) at es are ∙ latest_is x.log x.number at (sent signal target)
 
 passings_sent : (session : JobsSession) (x : DeskState) (at : ℕ) (es : List JobEvent)
-    → AreSent es
+    → AreSignals es
     → passings_on session (all_noted x at es).log x.number ≡ passings_on session x.log x.number
 passings_sent session x at [] are = refl
 passings_sent session x at (own c step answer ∷ es) are = absurd are
@@ -110,7 +102,7 @@ passings_sent session x at (sent signal target ∷ es) are =
     passings_sent session (noted x at (sent signal target)) at es are
     ∙ logged_more session x.log x.number at (sent signal target) refl
 
-module _ (d x : DeskState) (at c : ℕ) (answer : JobAnswer) (left : JobState) (es : List JobEvent) (are : AreSent es)
+module _ (d x : DeskState) (at c : ℕ) (answer : JobAnswer) (left : JobState) (es : List JobEvent) (are : AreSignals es)
     (said : x ≡ all_noted (record (answered_own d at c answer) { jobs = left }) at es) where
   abbrev step : ℕ
   step = slice_index_or d.next c 0
@@ -136,65 +128,6 @@ module _ (d x : DeskState) (at c : ℕ) (answer : JobAnswer) (left : JobState) (
   pub step_behind : c < length d.next → slice_index_or x.next c 0 ≡ step + 1
   step_behind known =
       ap (λ (z : DeskState). slice_index_or z.next c 0) (said ∙ all_as y at es) ∙ step_own d.next c (step + 1) known
-
--- ---- the attempt
-
-bound_none : (o : Option Bound) (now : Option HandleState) → is_bound o ≡ false → bound_or o now ≡ now
-bound_none None now e = refl
-bound_none (Some b) now e = absurd (false≢true (sym e))
-
-live_does : (t : Terminal) (o : Option HandleState) (live : Outcome) → IsTrue (is_live o) → on_live t o live ≡ live
-live_does t None live is = absurd (false≢true is)
-live_does t (Some handle) live is =
-    ap (λ (b : Bool). if b then live else on_live t (Some (record handle { live = false })) live) is
-
--- through a live handle it does what it is for
-hangup_is : (t : Terminal) (s : CallerState) (h : ℕ)
-    → has_begun s ≡ false
-    → IsTrue (is_live (handle_at t h))
-    → outcome t s (hangs_up h) ≡ gives done true (after_hangup t)
-hangup_is t s h rest live =
-    ap (λ (o : Option HandleState). on_live t o (hangup_outcome t)) (bound_none s.bound (handle_at t h) rest)
-    ∙ live_does t (handle_at t h) (hangup_outcome t) live
-
-done_answer : (may : Bool) (left : Terminal) (answer : PlainAnswer) (o : Outcome)
-    → o ≡ gives done true left
-    → Answers may o answer
-    → answer ≡ done
-done_answer may left answer o is h = subst (λ (x : Outcome). Answers may x answer) is h
-
-no_part : (left : Terminal) (n : ℕ) (o : Outcome) → o ≡ gives done true left → TakesPart o n → ⊥
-no_part left n o is h = subst (λ (x : Outcome). TakesPart x n) is h
-
-no_wait : (left : Terminal) (o : Outcome) → o ≡ gives done true left → MustWait o → ⊥
-no_wait left o is h = subst MustWait is h
-
-module _ (old new : PortValue) (c h : ℕ) (rest : begun_at old c ≡ false)
-    (live : IsTrue (is_live (handle_at old.terminal h))) (makes : MakesCall old new c (hangs_up h)) where
-  abbrev next : ℕ
-  next = (caller_at old.terminal c).next
-
-  known : (v : PortValue)
-      → new.kept ≡ v.kept
-      → outcome_of old.terminal (caller_at old.terminal c) (call_in v.kept c next)
-      ≡ gives done true (after_hangup old.terminal)
-  known v kept =
-      ap (λ (o : Option PlainCall). outcome_of old.terminal (caller_at old.terminal c) o)
-      (ap (λ ks. call_in ks c next) (sym kept) ∙ makes.kept)
-      ∙ hangup_is old.terminal (caller_at old.terminal c) h rest live
-
-  pub is_done : (tried : PlainTried) → Attempts old new c next (hangs_up h) tried → tried ≡ done_by done
-  is_done (done_by answer) a =
-      ap (λ (x : PlainAnswer). done_by x)
-      (done_answer (is_some (caller_at old.terminal c).waits && quiet old.counts old.terminal)
-      (after_hangup old.terminal) answer _
-      (known (with_call old c next (hangs_up h)) (ap (λ (v : PortValue). v.kept) a.appends.appended))
-      a.appends.allowed.1.answer)
-  is_done took_part a = absurd (no_part (after_hangup old.terminal) a.count _
-      (known (with_call old c next (hangs_up h)) (ap (λ (v : PortValue). v.kept) a.appends.appended))
-      a.appends.allowed.1.takes)
-  is_done must_wait a = absurd
-      (no_wait (after_hangup old.terminal) _ (hangup_is old.terminal (caller_at old.terminal c) h rest live) a.must)
 
 -- ---- the turn
 
@@ -230,7 +163,7 @@ module _ (f : Frame) (roles : List Role) where
       step_behind d x at c answer left es are said h.known in
       let found = position-Some is_live v.terminal.handles handle None
       (least_is signals (position is_live v.terminal.handles) handle hangs) in
-      let few : handle < 32 = subst (λ (n : ℕ). handle < n) (are_numbers v port) found.0 in
+      let few : handle < MOST_HANDLES = subst (λ (n : ℕ). handle < n) (are_numbers v port) found.0 in
       let before : AreLoggedBefore f.session x.log p c (latest_on x.log p) =
       subst (λ (n : ℕ). AreLoggedBefore f.session x.log p c n) (sym latest)
       (subst (λ (ms : List Passing). All (λ m. m.step < slice_index_or d.next c 0) (by_caller c ms)) (sym passings)

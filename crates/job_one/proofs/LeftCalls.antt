@@ -6,17 +6,18 @@ use Rattle.std.specs.Prelude.{All, slice_get, slice_index_or, slice_set, sum}
 use Rattle.std.proofs.lemmas.Bool.{cases_eq, false≢true, ne_eqb}
 use Rattle.std.proofs.lemmas.List.{get_or-set_same, get_or-set_other, length-map, length-set}
 use Rattle.std.proofs.lemmas.Option.{same_Some, slice_get-get_or, slice_get_within}
+use Rattle.tty_base.specs.Sizes.{MOST_STEPS}
 use Rattle.tty_base.specs.declared.characters.Flagged.{Flagged}
 use Rattle.word_ring.specs.Ends.{PutterState}
 use Rattle.tty_base.specs.declared.counters.Signal.{Signal}
 use Rattle.tty_calls.specs.Plain.{PlainEntry, is_caller}
 use Rattle.tty_terminal.specs.Terminals.{caller_at}
 use Rattle.port_core.specs.Ports.{PortValue, IsPort, IsOpen, end_entry}
-use Rattle.one_thread.specs.Order.{is_of_consoles}
-use Rattle.one_thread.specs.Stages.{HasAnyOrder}
+use Rattle.one_order.specs.Order.{is_of_consoles}
+use Rattle.play_base.specs.Scenes.{HasAnyOrder}
 use Rattle.one_thread.specs.Turns.{role_numbers, IsAbsent, PlaysOnIn}
 use Rattle.one_thread.specs.Acts.{AddsEntry, EndsCalls, InLast, PlaysEnd, PlaysLast}
-use Rattle.one_thread.specs.declared.roles.Role.{Role}
+use Rattle.play_base.specs.declared.roles.Role.{Role}
 use Rattle.one_thread.specs.declared.after_line.Stand.{Stand}
 use Rattle.one_thread.specs.declared.after_line.Turn.TheVariants as turn
 use Rattle.one_thread.proofs.AfterLine.{all_known, nothing_left}
@@ -109,7 +110,7 @@ module _ (p k : ℕ) (session : JobsSession) (next : List ℕ) (c : ℕ) where
       let step : slice_index_or late c 0 ≡ slice_index_or next c 0 + 1 =
       step_own next c (slice_index_or next c 0 + 1) h.known in
       let count : slice_index_or next c 0 + suc (length rest) ≡ begin_of p (block_phases session) (k + 1) c = h.count in
-      let few : slice_index_or next c 0 + suc (length rest) ≤ 65536 = h.few in
+      let few : slice_index_or next c 0 + suc (length rest) ≤ MOST_STEPS = h.few in
       record {
         known = omega (arith, h.known, long);
         from = omega (arith, h.from, step);
@@ -147,17 +148,22 @@ left_passed p k session roles next left place r call rest h at apart is =
     let c = r.number in
     let later = slice_set next c (slice_index_or next c 0 + 1) in
     let within : place < length left = omega (arith, slice_get_within roles place r at, h.many) in
-    let here : IsLeftTo p k (block_phases session) (job_call_at p session) later c (left_at (slice_set left place rest) place) =
-    subst (λ (cs : List JobCall). IsLeftTo p k (block_phases session) (job_call_at p session) later c cs) (sym (get_or-set_same left place rest [] within))
+    let here : IsLeftTo p k (block_phases session) (job_call_at p session) later c
+    (left_at (slice_set left place rest) place) =
+    subst (λ (cs : List JobCall). IsLeftTo p k (block_phases session) (job_call_at p session) later c cs)
+    (sym (get_or-set_same left place rest [] within))
     (own_then p k session next c call rest
-    (subst (λ (cs : List JobCall). IsLeftTo p k (block_phases session) (job_call_at p session) next c cs) is (h.each place r at))) in
+    (subst (λ (cs : List JobCall). IsLeftTo p k (block_phases session) (job_call_at p session) next c cs) is
+    (h.each place r at))) in
     record {
       many = length-set left place rest ∙ h.many;
       each = λ i q q_at. elim (cases_eq i place) [
         | inl same ↦
             let q_is : r ≡ q = same_Some r q (sym at ∙ (ap (λ (j : ℕ). slice_get roles j) (sym same) ∙ q_at)) in
-            subst (λ (j : ℕ). IsLeftTo p k (block_phases session) (job_call_at p session) later q.number (left_at (slice_set left place rest) j)) (sym same)
-            (subst (λ (z : Role). IsLeftTo p k (block_phases session) (job_call_at p session) later z.number (left_at (slice_set left place rest) place))
+            subst (λ (j : ℕ). IsLeftTo p k (block_phases session) (job_call_at p session) later q.number
+            (left_at (slice_set left place rest) j)) (sym same)
+            (subst (λ (z : Role). IsLeftTo p k (block_phases session) (job_call_at p session) later z.number
+            (left_at (slice_set left place rest) place))
             q_is here)
         | inr other ↦
             subst (λ (cs : List JobCall). IsLeftTo p k (block_phases session) (job_call_at p session) later q.number cs)
@@ -236,11 +242,12 @@ module _ (f : Frame) (roles : List Role) where
       let c = r.number in
       let rest = after_next (left_at left place) in
       let own : IsLeftTo p k (block_phases f.session) (job_call_at p f.session) d.next c (call ∷ rest) =
-      subst (λ (cs : List JobCall). IsLeftTo p k (block_phases f.session) (job_call_at p f.session) d.next c cs) (head_of (left_at left place) call is)
+      subst (λ (cs : List JobCall). IsLeftTo p k (block_phases f.session) (job_call_at p f.session) d.next c cs)
+      (head_of (left_at left place) call is)
       (h.calls.each place r at) in
       let count : slice_index_or d.next c 0 + suc (length rest) ≡ begin_of p (block_phases f.session) (k + 1) c =
       own.count in
-      let few : slice_index_or d.next c 0 + suc (length rest) ≤ 65536 = own.few in
+      let few : slice_index_or d.next c 0 + suc (length rest) ≤ MOST_STEPS = own.few in
       let caller : c < length d.callers = omega (arith, own.known, h.procs.next, h.procs.callers) in
       let here : slice_index_or d.next c 0 + 0 ≡ slice_index_or d.next c 0 = omega arith in
       record {
@@ -356,7 +363,8 @@ module _ (f : Frame) (roles : List Role) where
       → begun_at v r.number ≡ false
   rests_here v d stand left place r h at none =
       let own : IsLeftTo p k (block_phases f.session) (job_call_at p f.session) d.next r.number [] =
-      subst (λ (cs : List JobCall). IsLeftTo p k (block_phases f.session) (job_call_at p f.session) d.next r.number cs) none (h.calls.each place r at) in
+      subst (λ (cs : List JobCall). IsLeftTo p k (block_phases f.session) (job_call_at p f.session) d.next r.number cs)
+      none (h.calls.each place r at) in
       let count : slice_index_or d.next r.number 0 + 0 ≡ begin_of p (block_phases f.session) (k + 1) r.number =
       own.count in
       rests_last f roles v d stand r.number h.at (omega (arith, count))
@@ -468,7 +476,8 @@ module _ (f : Frame) (roles : List Role) where
     | inl q ↦
         let over = over_of q.place q.role q.at_place in
         let own : IsLeftTo p k (block_phases f.session) (job_call_at p f.session) d.next q.role.number [] =
-        subst (λ (cs : List JobCall). IsLeftTo p k (block_phases f.session) (job_call_at p f.session) d.next q.role.number cs)
+        subst (λ (cs : List JobCall). IsLeftTo p k (block_phases f.session) (job_call_at p f.session) d.next
+        q.role.number cs)
         (h.over q.place q.role q.at_place over) (h.calls.each q.place q.role q.at_place) in
         let count : slice_index_or d.next q.role.number 0 + 0
         ≡ begin_of p (block_phases f.session) (k + 1) q.role.number = own.count in

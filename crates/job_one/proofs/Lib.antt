@@ -19,7 +19,6 @@ pub mod NextCalls
 pub mod HangUps
 pub mod LeftCalls
 pub mod Telling
-pub mod Owned
 pub mod Begins
 pub mod Rising
 pub mod Keeping

@@ -4,7 +4,7 @@ use Rattle.std.proofs.Common.{◌++◌, IsTrue, Option, Some, length, if◌then�
 use Rattle.std.proofs.Common.{refl, sym, ap, ◌∙◌, subst, arith, length-append, append_assoc}
 use Rattle.std.specs.Prelude.{slice_get, nat_le, option_map}
 use Rattle.std.proofs.lemmas.List.{length-map}
-use Rattle.journal_check.proofs.NameLemmas.{get_past}
+use Rattle.legal_runs.proofs.NameLemmas.{get_past}
 use Rattle.tty_base.specs.declared.counters.Signal.{Signal}
 use Rattle.tty_calls.specs.Plain.{PlainCall}
 use Rattle.tty_calls.specs.Plain.{hangs_up, PlainAnswer, done}
@@ -23,7 +23,8 @@ use Rattle.job_text.specs.Sessions.{JobCall, JobsSession}
 use Rattle.job_steps.specs.Derived.{IsStepIn}
 use Rattle.job_steps.specs.Steps.{Port, JobsState, first_state}
 use Rattle.job_steps.specs.Steps.{proc_of, next_of, next_call, with_jobs, answered_for, after_own, after_passed}
-use Rattle.job_steps.specs.Steps.{after_event, rest_of, outcome_of, is_own, OwnAnswer, IsOfCall, GoesOn, first_place}
+use Rattle.job_steps.specs.Steps.{after_event, rest_of, outcome_of, is_own, OwnAnswer, IsOfCall, WentToPort}
+use Rattle.job_steps.specs.Steps.{first_place}
 use Rattle.job_steps.specs.Steps.{job_signal, raised_at, foreground_target, IsSent, IsAllowed, Leads}
 use Rattle.passed_laws.specs.Later.{IsLater, ComesBy, WasAnswered}
 use Rattle.passed_laws.proofs.Laters.{later_before, terminal_now, long_enough, on_more}
@@ -164,7 +165,8 @@ logs_own p session log v u d c call answer port h none is in_phase rest its said
       nothing_due = none;
       next = refl;
       in_phase =
-          subst (λ (t : Terminal). IsStepIn p session t.phase c (next_of u c)) (sym (terminal_now v j port later)) in_phase;
+          subst (λ (t : Terminal). IsStepIn p session t.phase c (next_of u c)) (sym (terminal_now v j port later))
+          in_phase;
       between = ap (λ (t : Terminal). has_begun (caller_at t c)) (terminal_now v j port later) ∙ rest;
       answers = subst (λ (t : Terminal).
           OwnAnswer u.now.jobs t (proc_of (port_with p session d) c) c (next_call (port_with p session d) u c) answer)
@@ -201,7 +203,8 @@ logs_passed p session log v u d c step call answer port h none is in_phase kept 
       nothing_due = none;
       next = refl;
       in_phase =
-          subst (λ (t : Terminal). IsStepIn p session t.phase c (next_of u c)) (sym (terminal_now v j port later)) in_phase;
+          subst (λ (t : Terminal). IsStepIn p session t.phase c (next_of u c)) (sym (terminal_now v j port later))
+          in_phase;
       entry = record {
         entry = was.entry;
         some = omega (arith, count);
@@ -215,9 +218,10 @@ logs_passed p session log v u d c step call answer port h none is in_phase kept 
       of_call = subst (λ (o : Option JobCall). IsOfCall (port_with p session j) c was.entry.step o) (sym is)
           (ap (λ (n : ℕ). j.calls c n) was.of_step ∙ later.calls c step call kept);
       goes_on = subst
-          (λ (n : ℕ). GoesOn (port_with p session j) u (first_place j c n) c (next_call (port_with p session j) u c))
+          (λ (n : ℕ). WentToPort (port_with p session j) u (first_place j c n) c
+          (next_call (port_with p session j) u c))
           (sym was.of_step)
-          (subst (λ (place : ℕ). GoesOn (port_with p session j) u place c (next_call (port_with p session j) u c))
+          (subst (λ (place : ℕ). WentToPort (port_with p session j) u place c (next_call (port_with p session j) u c))
           (sym (gone.is_first j later)) (gone.goes_on j later));
     })
     (λ j later. refl)
@@ -235,7 +239,8 @@ logs_due p session log v u signal target rest h is now =
     let n = length v.journal in
     logs p session log v u (record (with_jobs u n u.now.jobs) { signals = u.signals; due = rest }) (sent signal target)
     h
-    (λ j later. subst (λ (es : List JobEvent). IsSent (port_with p session j) u n signal target es) (sym is) (refl, now))
+    (λ j later. subst (λ (es : List JobEvent). IsSent (port_with p session j) u n signal target es) (sym is)
+    (refl, now))
     (due_comes p session v u signal target rest is)
     (omega arith)
 

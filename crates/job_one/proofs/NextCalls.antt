@@ -16,7 +16,7 @@ use Rattle.passed_calls.specs.Scripts.{CallerScript, plain, further, calls_named
 use Rattle.passed_calls.specs.Within.{IsAnyCallWithin, AreCallsWithin}
 use Rattle.port_core.specs.Ports.{PortValue, call_in}
 use Rattle.one_thread.specs.Turns.{Plays}
-use Rattle.one_thread.specs.declared.roles.Role.{Role}
+use Rattle.play_base.specs.declared.roles.Role.{Role}
 use Rattle.one_thread.specs.declared.after_line.Stand.{Stand}
 use Rattle.one_thread.specs.declared.after_line.Turn.TheVariants as turn
 use Rattle.one_thread.proofs.Ready.{role_known}
@@ -26,7 +26,7 @@ use Rattle.job_text.specs.declared.calls.OwnCall.{OwnCall}
 use Rattle.job_text.specs.Events.{JobEvent}
 use Rattle.job_text.specs.Sessions.{JobCall, JobsPhase, JobsSession, blocks_in}
 use Rattle.job_steps.specs.Derived.{block_phases, job_call_at, scripts_over, passings_on}
-use Rattle.job_steps.specs.Steps.{Port, JobsState, GoesOn, is_own, judged_call, judged_answer}
+use Rattle.job_steps.specs.Steps.{Port, JobsState, WentToPort, is_own, judged_call, judged_answer}
 use Rattle.passed_laws.specs.Passed.{begin_of}
 use Rattle.passed_laws.specs.Witness.{scene_on}
 use Rattle.passed_laws.specs.Later.{IsLater}
@@ -111,7 +111,8 @@ IsPlainCall None = ⊥
 IsPlainCall (Some (plain call)) = Unit {0}
 IsPlainCall (Some (further call)) = ⊥
 
-goes_plain : (port : Port) (s : JobsState) (place c : ℕ) (o : Option JobCall) → GoesOn port s place c o → IsPlainCall o
+goes_plain : (port : Port) (s : JobsState) (place c : ℕ) (o : Option JobCall) → WentToPort port s place c o
+    → IsPlainCall o
 goes_plain port s place c None h = h
 goes_plain port s place c (Some (plain call)) h = tt
 goes_plain port s place c (Some (further call)) h = h

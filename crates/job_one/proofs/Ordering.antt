@@ -9,10 +9,10 @@ use Rattle.tty_calls.specs.Plain.{PlainAnswer, PlainEntry}
 use Rattle.tty_calls.specs.Sessions.{PlainSession, call_at}
 use Rattle.tty_terminal.specs.Terminals.{Terminal}
 use Rattle.port_core.specs.Ports.{PortValue, IsPort}
-use Rattle.one_thread.specs.Order.{is_of_consoles, first_place, place_after, turn as whose_turn}
-use Rattle.one_thread.specs.Roles.{Scene}
+use Rattle.one_order.specs.Order.{is_of_consoles, first_place, place_after, turn as whose_turn}
+use Rattle.play_base.specs.Roles.{Scene}
 use Rattle.one_thread.specs.Turns.{role_numbers, IsTurn, Plays}
-use Rattle.one_thread.specs.declared.roles.Role.{Role}
+use Rattle.play_base.specs.declared.roles.Role.{Role}
 use Rattle.one_thread.specs.declared.after_line.Stand.{Stand}
 use Rattle.one_thread.specs.declared.after_line.Turn.TheVariants as turn
 use Rattle.one_thread.proofs.Calling.{role_number}

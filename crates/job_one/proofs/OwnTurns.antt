@@ -8,7 +8,7 @@ use Rattle.handle_table.specs.declared.HandleState.{HandleState}
 use Rattle.tty_terminal.specs.Terminals.{Terminal, opening}
 use Rattle.passed_calls.specs.Journals.{Journal}
 use Rattle.port_core.specs.Ports.{PortValue, IsPort}
-use Rattle.one_thread.specs.declared.roles.Role.{Role}
+use Rattle.play_base.specs.declared.roles.Role.{Role}
 use Rattle.one_thread.specs.declared.after_line.Stand.{Stand}
 use Rattle.one_thread.specs.declared.after_line.Turn.TheVariants as turn
 use Rattle.job_control.specs.Control.{JobState, controls, leads_holder}
@@ -22,9 +22,10 @@ use Rattle.job_text.specs.declared.calls.OwnCall.TheVariants as call
 use Rattle.job_text.specs.Events.{JobEvent, own, passed, passed_down, sent, JobLog}
 use Rattle.job_text.specs.Sessions.{JobCall}
 use Rattle.job_steps.specs.Derived.{IsStepIn}
-use Rattle.job_steps.specs.Steps.{Outcome, judged_call, judged_answer, sent_by_stop, spgrp_judged, through, outcome_of}
+use Rattle.job_steps.specs.Steps.{ControlOutcome, judged_call, judged_answer, sent_by_stop, spgrp_judged, through}
+use Rattle.job_steps.specs.Steps.{outcome_of}
 use Rattle.job_one.specs.Desk.{proc_in}
-use Rattle.job_one.specs.Events.{DeskState, noted, all_noted, AreSent, answered_own, stopped}
+use Rattle.job_one.specs.Events.{DeskState, noted, all_noted, AreSignals, answered_own, stopped}
 use Rattle.job_one.specs.Between.{value_at}
 use Rattle.job_one.specs.Playing.{DeskValue, IsPlayingJobs}
 use Rattle.job_one.specs.Frames.{Frame, IsOwing, IsAtTurn, IsNextTurn, IsOwnCall}
@@ -53,14 +54,14 @@ if_same : (b : Bool) (x y jobs : JobState)
 if_same true x y jobs h k = h
 if_same false x y jobs h k = k
 
-if_left : (b : Bool) (x y : Outcome) (jobs : JobState)
+if_left : (b : Bool) (x y : ControlOutcome) (jobs : JobState)
     → x.left.procs ≡ jobs.procs
     → y.left.procs ≡ jobs.procs
     → (if b then x else y).left.procs ≡ jobs.procs
 if_left true x y jobs h k = h
 if_left false x y jobs h k = k
 
-through_same : (jobs : JobState) (o : Option HandleState) (dead : JobAnswer) (outcome : Outcome)
+through_same : (jobs : JobState) (o : Option HandleState) (dead : JobAnswer) (outcome : ControlOutcome)
     → outcome.left.procs ≡ jobs.procs
     → (through jobs o dead outcome).left.procs ≡ jobs.procs
 through_same jobs None dead outcome h = refl
@@ -97,7 +98,7 @@ module _ (f : Frame) (roles : List Role) where
 
   -- signals that are due are sent, one after the other
   all_go : (v : PortValue) (now : Stand) (x : DeskState) (es rest : List JobEvent)
-      → AreSent es
+      → AreSignals es
       → f.first.port ≡ x.number
       → Plays v now x.log (due_at x (es ++ rest))
       → Plays v now (all_noted x (length v.journal) es).log (due_at (all_noted x (length v.journal) es) rest)
@@ -121,7 +122,7 @@ module _ (f : Frame) (roles : List Role) where
       → IsNextTurn f roles v stand (turn.Call place)
       → IsPort v
       → (h : IsOwnCall f roles v d place job_call)
-      → AreSent es
+      → AreSignals es
       → (outcome_of d.jobs v.terminal (proc_in f.session f.first.port h.role.number)
       h.role.number job_call).due ≡ es ++ rest
       → x
@@ -171,7 +172,7 @@ module _ (f : Frame) (roles : List Role) where
       }
 
   -- what a stopped call makes due is a signal at most
-  stop_sends : (jobs : JobState) (p : ℕ) (judged : Judged) → AreSent (sent_by_stop jobs p judged)
+  stop_sends : (jobs : JobState) (p : ℕ) (judged : Judged) → AreSignals (sent_by_stop jobs p judged)
   stop_sends jobs p Pass = tt
   stop_sends jobs p Eio = tt
   stop_sends jobs p (Stop signal) = tt

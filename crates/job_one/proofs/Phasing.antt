@@ -12,20 +12,22 @@ use Rattle.tty_calls.specs.Plain.{PlainCall, PlainEntry, phase_ended}
 use Rattle.tty_calls.specs.Sessions.{line_on, ticks_on}
 use Rattle.tty_terminal.specs.Terminals.{Terminal, opening, caller_at, has_begun}
 use Rattle.tty_terminal.specs.Steps.{after}
-use Rattle.tty_terminal.specs.Runs.{Grows, is_flush}
+use Rattle.tty_terminal.specs.Runs.{KnowsMore, is_flush}
 use Rattle.tty_terminal.specs.declared.callers.CallerState.{CallerState}
-use Rattle.journal_check.specs.Legal.{phase_at}
+use Rattle.legal_runs.specs.Legal.{phase_at}
 use Rattle.passed_calls.specs.Derived.{Passing, AreInSteps, by_caller}
 use Rattle.passed_calls.specs.Journals.{terminal_after}
 use Rattle.port_core.specs.Ports.{PortValue, IsPort, call_in}
-use Rattle.one_thread.specs.Order.{is_of_consoles}
-use Rattle.one_thread.specs.Roles.{Scene}
-use Rattle.one_thread.specs.Stages.{AreAtFirst, EndsAfterLine}
-use Rattle.one_thread.specs.Lines.{IsAtPhase, PlaysLine}
+use Rattle.one_order.specs.Order.{is_of_consoles}
+use Rattle.play_base.specs.Roles.{Scene}
+use Rattle.play_base.specs.Scenes.{AreAtFirst}
+use Rattle.one_thread.specs.Stages.{EndsAfterLine}
+use Rattle.play_base.specs.Beginning.{IsAtPhase}
+use Rattle.one_thread.specs.Lines.{PlaysLine}
 use Rattle.one_thread.proofs.StationLemmas.{at_next_phase}
 use Rattle.one_thread.specs.Turns.{role_numbers, IsTurn}
 use Rattle.one_thread.specs.Acts.{PlaysItsLine, AddsEntry, PlaysEnd}
-use Rattle.one_thread.specs.declared.roles.Role.{Role}
+use Rattle.play_base.specs.declared.roles.Role.{Role}
 use Rattle.one_thread.specs.declared.after_line.Stand.{Stand}
 use Rattle.one_thread.specs.declared.after_line.Turn.TheVariants as turn
 use Rattle.order_laws.specs.Agreed.{IsBeforeEach, AreRolesOfEach}
@@ -70,7 +72,7 @@ after_append : (f : ℕ → ℕ → Option PlainCall) (t : Terminal) (es : List 
 after_append f t [] e = refl
 after_append f t (x ∷ es) e = after_append f (after f t x) es e
 
-same_grows : (f : ℕ → ℕ → Option PlainCall) → Grows f f
+same_grows : (f : ℕ → ℕ → Option PlainCall) → KnowsMore f f
 same_grows f c step call is = is
 
 pub one_after : (v w : PortValue) (e : PlainEntry)

@@ -1,7 +1,7 @@
 -- Signals are never taken back.
-use Rattle.std.proofs.Common.{◌≡◌, ◌≤◌, ℕ, zero, suc, ◌+◌, Bool, true, false, not, ◌&&◌}
-use Rattle.std.proofs.Common.{List, [], ◌∷◌, ◌++◌, Option, None, Some, length, map, take}
-use Rattle.std.proofs.Common.{if◌then◌else◌, refl, sym, ap, ◌∙◌, subst, arith, length-append}
+use Rattle.std.proofs.Common.{◌≡◌, ◌≤◌, ℕ, zero, suc, Bool, true, false, not, ◌&&◌}
+use Rattle.std.proofs.Common.{List, [], ◌∷◌, Option, None, Some, length, map, take}
+use Rattle.std.proofs.Common.{if◌then◌else◌, refl, ap, arith, length-append}
 use Rattle.std.proofs.lemmas.List.{length-map}
 use Rattle.tty_base.specs.declared.characters.Flag.{Flag}
 use Rattle.tty_base.specs.declared.characters.Flag.TheVariants as flag
@@ -30,7 +30,7 @@ use Rattle.n_tty.specs.Editing.{echo_of_word_erase, echo_of_kill, echo_of_erase,
 use Rattle.n_tty.specs.Flow.{with_signal, after_signal, after_drop}
 use Rattle.n_tty.specs.Roles.{is_character, signal_of, mapped_byte, role_of}
 use Rattle.n_tty.specs.Receiving.{with_one_more, with_quoted, after_resume, after_resume_where, ordinary_bytes}
-use Rattle.n_tty.specs.Receiving.{stripped_byte, after_ordinary, after_role, after_mapped, after_signal_character}
+use Rattle.n_tty.specs.Receiving.{stripped_byte, after_ordinary, after_role, after_mapped}
 use Rattle.n_tty.specs.Receiving.{after_unsteered, after_unquoted, after_good, after_break, after_bad, after_flagged}
 use Rattle.ldisc_switch.specs.declared.discipline.Disc.{Disc}
 use Rattle.ldisc_switch.specs.declared.discipline.Disc.TheVariants as disc
@@ -40,7 +40,6 @@ use Rattle.tty_terminal.specs.Receiving.{after_character, after_characters}
 use Rattle.tty_terminal.specs.Steps.{after}
 use Rattle.tty_terminal.specs.Runs.{is_flush}
 use Rattle.passed_calls.specs.Journals.{Journal, terminal_after, terminal_at}
-use Rattle.job_control.specs.declared.processes.JobSignal.{JobSignal}
 use Rattle.job_steps.specs.Steps.{job_signal, raised_at}
 use Rattle.job_one.specs.Desk.{signals_of}
 use Rattle.job_one.proofs.Raised.{entry_still}

@@ -8,7 +8,7 @@ use Rattle.std.proofs.lemmas.Option.{get_or_from_slice_get, slice_get_within, sl
 use Rattle.tty_base.specs.declared.counters.Signal.{Signal}
 use Rattle.tty_base.specs.declared.counters.Signal.TheVariants.{Int}
 use Rattle.port_core.specs.Ports.{PortValue, IsPort}
-use Rattle.one_thread.specs.Roles.{Scene}
+use Rattle.play_base.specs.Roles.{Scene}
 use Rattle.job_text.specs.Events.{sent}
 use Rattle.job_text.specs.Sessions.{JobsSession}
 use Rattle.passed_calls.specs.Derived.{Passing}

@@ -1,9 +1,9 @@
 -- A player of a session of processes, turn by turn.
-use Rattle.std.proofs.Common.{◌≡◌, ◌≤◌, ◌<◌, ◌⊎◌, inl, inr, ℕ, ◌+◌, ◌==◌, ◌||◌, Bool, true, false}
-use Rattle.std.proofs.Common.{List, [], ◌∷◌, ◌++◌, IsTrue, Option, Some, length, if◌then◌else◌}
-use Rattle.std.proofs.Common.{refl, sym, ap, ◌∙◌, subst, arith, append-nil, length-append}
+use Rattle.std.proofs.Common.{◌≡◌, ◌≤◌, ◌<◌, ◌⊎◌, inl, inr, ℕ, ◌+◌, Bool, true, false}
+use Rattle.std.proofs.Common.{List, [], ◌∷◌, ◌++◌, IsTrue, Option, Some, length}
+use Rattle.std.proofs.Common.{refl, sym, ap, ◌∙◌, subst, arith, append-nil}
 use Rattle.std.specs.Prelude.{All, slice_get, slice_index_or, slice_set}
-use Rattle.std.proofs.lemmas.Bool.{cases_eq, false≢true, ne_eqb, eq-eqb}
+use Rattle.std.proofs.lemmas.Bool.{cases_eq, false≢true}
 use Rattle.std.proofs.lemmas.List.Elements.{All-append, All-cons, All-nil}
 use Rattle.tty_base.specs.declared.counters.Signal.{Signal}
 use Rattle.tty_calls.specs.declared.sessions.Script.{Script}
@@ -11,18 +11,18 @@ use Rattle.tty_calls.specs.declared.journals.Who.{Who}
 use Rattle.tty_calls.specs.Limits.{IsCallWithin}
 use Rattle.tty_calls.specs.Plain.{PlainCall, hangs_up, PlainAnswer, done, PlainEntry, is_caller}
 use Rattle.tty_terminal.specs.Terminals.{caller_at}
-use Rattle.tty_terminal.specs.Runs.{Grows, is_of_call}
-use Rattle.passed_calls.specs.Derived.{Passing, BlockPhase, AreInSteps, by_caller, all_calls, calls_at}
+use Rattle.tty_terminal.specs.Runs.{is_of_call}
+use Rattle.passed_calls.specs.Derived.{Passing, BlockPhase, by_caller}
 use Rattle.passed_calls.specs.Journals.{Journal}
 use Rattle.passed_calls.specs.Scripts.{plain}
 use Rattle.port_core.specs.Attempts.{PlainTried, done_by, took_part, must_wait, Attempts}
-use Rattle.port_core.specs.Ports.{PortValue, IsPort, call_in, end_entry}
-use Rattle.one_thread.specs.Order.{is_of_consoles}
-use Rattle.one_thread.specs.Roles.{Scene}
-use Rattle.one_thread.specs.Stages.{HasAnyOrder, IsOfSceneIn}
-use Rattle.one_thread.specs.Turns.{role_numbers, who_of, standing_at, IsTurn, PlaysOnIn, TakesTurn}
+use Rattle.port_core.specs.Ports.{PortValue, IsPort, end_entry}
+use Rattle.one_order.specs.Order.{is_of_consoles}
+use Rattle.play_base.specs.Roles.{Scene}
+use Rattle.play_base.specs.Scenes.{HasAnyOrder, HasOneOrder}
+use Rattle.one_thread.specs.Turns.{role_numbers, who_of, IsTurn, PlaysOnIn, TakesTurn}
 use Rattle.one_thread.specs.Acts.{AddsEntry, PlaysTurn, TriesCall, PlaysCall, EndsCalls, PlaysLast}
-use Rattle.one_thread.specs.declared.roles.Role.{Role}
+use Rattle.play_base.specs.declared.roles.Role.{Role}
 use Rattle.one_thread.specs.declared.after_line.Stand.{Stand}
 use Rattle.one_thread.specs.declared.after_line.Turn.{Turn}
 use Rattle.one_thread.specs.declared.after_line.Turn.TheVariants as turn
@@ -33,9 +33,9 @@ use Rattle.job_text.specs.Events.{JobEvent, own, passed, passed_down, sent, JobL
 use Rattle.job_text.specs.Sessions.{JobCall, JobsSession}
 use Rattle.job_steps.specs.Derived.{block_phases, IsStepIn, job_call_at, plain_call, passings_on}
 use Rattle.job_steps.specs.Steps.{outcome_of, is_own, judged_call, job_signal, foreground_target}
-use Rattle.passed_laws.specs.Passed.{begin_of, IsOfBlocks, AreUpTo, PassesMore}
+use Rattle.passed_laws.specs.Passed.{begin_of, IsOfBlocks}
 use Rattle.passed_calls.specs.Within.{AreBlocksWithin}
-use Rattle.passed_laws.specs.Witness.{scene_on, IsPlaying, IsCalling}
+use Rattle.passed_laws.specs.Witness.{scene_on, IsCalling}
 use Rattle.passed_laws.specs.Later.{ComesBy}
 use Rattle.job_one.specs.Latest.{latest_on}
 use Rattle.passed_laws.specs.Begun.{HadBegun}
@@ -45,20 +45,18 @@ use Rattle.job_one.specs.Playing.{DeskValue, step_at, next_passing, passings_wit
 use Rattle.passed_laws.specs.Begun.{begun_with}
 use Rattle.job_one.specs.Playing.{hangup_of, hangup_with, AreLoggedBefore, IsPlayingJobs}
 use Rattle.passed_laws.proofs.InOrders.{same_entry}
-use Rattle.passed_laws.proofs.Witnessed.{in_turn, in_call, in_last, turn_on, calls_next, call_on, last_on}
-use Rattle.passed_laws.proofs.Nexts.{next_of_call}
-use Rattle.passed_laws.proofs.Growing.{calls_all}
-use Rattle.passed_laws.proofs.Passings.{all_more, in_steps_more}
+use Rattle.passed_laws.proofs.Witnessed.{in_turn, in_call, in_last, turn_on, call_on, last_on, can_take}
 use Rattle.passed_laws.proofs.BegunBefore.{begun_same, begun_still, begun_elsewhere, begun_by_none}
 use Rattle.passed_laws.proofs.Attempted.{makes_as, attempts_as, begins, other_is}
 use Rattle.job_one.proofs.Begun.{of_step_is}
 use Rattle.passed_laws.proofs.Attempted.{begins_by_wait, begins_by_part, begun_now, was_answered, ended_now}
 use Rattle.passed_laws.proofs.Steps.{tail, tail_same, tail_none, tail_one}
 use Rattle.job_one.proofs.Mine.{logged_more, by_own, by_other}
-use Rattle.passed_laws.proofs.Steps.{step_own, step_other, step_rises, before_more, none_at, in_steps_below}
+use Rattle.passed_laws.proofs.Steps.{step_own, step_other, step_rises, before_more}
+use Rattle.passed_laws.proofs.Callings.{comes, kept_grows, begun_elsewhere_too, begun_here, passes_then, rests_at}
+use Rattle.passed_laws.proofs.Callings.{begun_then, plays_as, more_is_next, next_begins, next_continues}
 use Rattle.job_one.proofs.DeskEvents.{desk_sends, desk_hangs_up, desk_raises}
 use Rattle.job_one.proofs.DeskEvents.{desk_answers, desk_stays, desk_begins, desk_passes}
-use Rattle.journal_check.proofs.NameLemmas.{get_past}
 
 module _ (first : Scene) (session : JobsSession) (scripts : Scene → List Script) (roles : List Role)
     (start : PortValue) where
@@ -68,39 +66,8 @@ module _ (first : Scene) (session : JobsSession) (scripts : Scene → List Scrip
   abbrev phases : List BlockPhase
   phases = block_phases session
 
-  -- the same passings of each caller
-  plays_as : (f g : ℕ → List Passing) (v : PortValue) (ticks : ℕ) (stand : Stand)
-      → ((c : ℕ) → f c ≡ g c)
-      → IsPlaying first phases scripts roles start f v ticks stand
-      → IsPlaying first phases scripts roles start g v ticks stand
-  plays_as f g v ticks stand same h = subst
-      (λ (mine : ℕ → List Passing). IsPlaying first phases scripts roles start mine v ticks stand) (λ i. λ c. same c i)
-      h
-
-  calls_as : (f g : ℕ → List Passing) (v : PortValue) (ticks : ℕ) (stand : Stand) (place : ℕ) (call : PlainCall)
-      → ((c : ℕ) → f c ≡ g c)
-      → IsCalling first phases scripts roles start f v ticks stand place call
-      → IsCalling first phases scripts roles start g v ticks stand place call
-  calls_as f g v ticks stand place call same h = subst
-      (λ (mine : ℕ → List Passing). IsCalling first phases scripts roles start mine v ticks stand place call)
-      (λ i. λ c. same c i) h
-
-  -- a port of the scene comes to another one of it
-  comes : (s : Scene) (v w : PortValue) (part : List PlainEntry)
-      → IsOfSceneIn HasAnyOrder s v
-      → IsOfSceneIn HasAnyOrder s w
-      → w.journal ≡ v.journal ++ part
-      → Grows (call_in v.kept) (call_in w.kept)
-      → ComesBy v w part
-  comes s v w part was now added grows = record {
-    added = added;
-    grows = grows;
-    counts = now.counts ∙ sym was.counts;
-    capacity = now.capacity ∙ sym was.capacity;
-  }
-
-  kept_grows : (v w : PortValue) → w.kept ≡ v.kept → Grows (call_in v.kept) (call_in w.kept)
-  kept_grows v w same = subst (λ ks. Grows (call_in v.kept) (call_in ks)) (sym same) (λ c step call is. is)
+  abbrev logged : JobLog → ℕ → List Passing
+  logged log c = by_caller c (passings_on session log p)
 
   -- ---- a flush, a tick, or the end of the clock
 
@@ -136,7 +103,8 @@ module _ (first : Scene) (session : JobsSession) (scripts : Scene → List Scrip
       comes s old new (on.adds.entry ∷ []) at.plays.of_scene on.plays.of_scene on.adds.added
       (kept_grows old new adds.kept) in
       record {
-        playing = plays_as mine (passings_with session log p d (begun_at new)) new ticks now
+        playing = plays_as HasOneOrder first phases scripts roles start ticks
+            mine (passings_with session log p d (begun_at new)) new now
             (λ c. ap (λ (b : Bool). by_caller c (passings_on session log p) ++ tail b (next_passing session p d c))
             (sym (begun_same s old new on.adds c (other c))))
             (turn_on first phases scripts roles start mine old new ticks was now next h.playing is none plays adds);
@@ -160,8 +128,8 @@ module _ (first : Scene) (session : JobsSession) (scripts : Scene → List Scrip
   logged_same log v d late ticks stand event same next h desk =
       let more = log ++ record { port = p; at = length v.journal; event = event } ∷ [] in
       record {
-        playing = plays_as (passings_with session log p d (begun_at v)) (passings_with session more p late (begun_at v))
-            v ticks stand
+        playing = plays_as HasOneOrder first phases scripts roles start ticks
+            (passings_with session log p d (begun_at v)) (passings_with session more p late (begun_at v)) v stand
             (λ c. λ i.
             by_caller c (sym same i)
             ++ tail (begun_at v c) (record {
@@ -251,8 +219,8 @@ module _ (first : Scene) (session : JobsSession) (scripts : Scene → List Scrip
       ap (λ (n : ℕ). record { caller = x; step = n; calls = plain_call (job_call_at p session x n) })
       (sym (step_other d.next c x (step_at d c + 1) other)) in
       record {
-        playing = plays_as (passings_with session log p d (begun_at v)) (passings_with session more p late (begun_at v))
-            v ticks stand
+        playing = plays_as HasOneOrder first phases scripts roles start ticks
+            (passings_with session log p d (begun_at v)) (passings_with session more p late (begun_at v)) v stand
             (λ x. (λ i. by_caller x (sym same i) ++ tail (begun_at v x) (next_passing session p d x))
             ∙ ap (λ (ms : List Passing). by_caller x (passings_on session more p) ++ ms)
             (tail_same (begun_at v x) (next_passing session p d x) (next_passing session p late x) (steps x)))
@@ -272,24 +240,6 @@ module _ (first : Scene) (session : JobsSession) (scripts : Scene → List Scrip
   abbrev with_call : JobLog → DeskValue → PortValue → ℕ → ℕ → List Passing
   with_call log d v c = passings_with session log p d (begun_with v c)
 
-  or_true : (a b : Bool) → b ≡ true → (a || b) ≡ true
-  or_true true b e = refl
-  or_true false b e = e
-
-  or_left : (a b : Bool) → a ≡ true → (a || b) ≡ true
-  or_left true b e = refl
-  or_left false b e = absurd (false≢true e)
-
-  or_right : (a b : Bool) → a ≡ false → (a || b) ≡ b
-  or_right true b e = absurd (false≢true (sym e))
-  or_right false b e = refl
-
-  begun_elsewhere_too : (v : PortValue) (c x : ℕ) → (x ≡ c → ⊥) → begun_with v c x ≡ begun_at v x
-  begun_elsewhere_too v c x other = or_right (x == c) (begun_at v x) (ne_eqb x c other)
-
-  begun_here : (v : PortValue) (c : ℕ) → begun_with v c c ≡ true
-  begun_here v c = or_left (c == c) (begun_at v c) (eq-eqb c c refl)
-
   one_call : (o : Option JobCall) (call : PlainCall) → o ≡ Some (plain call) → plain_call o ≡ call ∷ []
   one_call o call is = ap plain_call is
 
@@ -308,42 +258,10 @@ module _ (first : Scene) (session : JobsSession) (scripts : Scene → List Scrip
       → step_at d r.number < begin_of p phases (v.terminal.phase + 1) r.number
       → IsCalling first phases scripts roles start (with_call log d v r.number) v ticks stand place call
   call_begins log v d ticks stand place r call h is at rest blocks limits good has low high =
-      let c = r.number in
-      let m = next_passing session p d c in
-      let mine = passings_with session log p d (begun_at v) in
-      let more = with_call log d v c in
-      let ms = by_caller c (passings_on session log p) in
-      let own_mine : mine c ≡ ms =
-      ap (λ (t : List Passing). ms ++ t) (tail_none (begun_at v c) m rest) ∙ append-nil ms in
-      let own_more : more c ≡ ms ++ m ∷ [] =
-      ap (λ (t : List Passing). ms ++ t) (tail_one (begun_with v c c) m (begun_here v c)) in
-      let passes : PassesMore c m mine more = record {
-        own = own_more ∙ ap (λ (xs : List Passing). xs ++ m ∷ []) (sym own_mine);
-        others = λ x other. ap
-            (λ (b : Bool). by_caller x (passings_on session log p) ++ tail b (next_passing session p d x))
-            (begun_elsewhere_too v c x other);
-      } in
-      let in_phase : AreInSteps 0 (begin_of p phases (v.terminal.phase + 1) c) ms =
-      subst (λ (xs : List Passing). AreInSteps 0 (begin_of p phases (v.terminal.phase + 1) c) xs) own_mine
-      (h.playing.up_to c) in
-      let own_steps : AreInSteps 0 (begin_of p phases (v.terminal.phase + 1) c) (more c) =
-      subst (λ (xs : List Passing). AreInSteps 0 (begin_of p phases (v.terminal.phase + 1) c) xs) (sym own_more)
-      (in_steps_more 0 (step_at d c) (begin_of p phases (v.terminal.phase + 1) c) ms m (omega arith) (omega arith) high
-      (in_steps_below 0 (begin_of p phases (v.terminal.phase + 1) c) (step_at d c) ms in_phase (h.logged_before c))) in
-      let up_to : AreUpTo p phases v.terminal.phase more =
-      λ x. elim (cases_eq x c) [
-        | inl same ↦
-            subst (λ (y : ℕ). AreInSteps 0 (begin_of p phases (v.terminal.phase + 1) y) (more y)) (sym same) own_steps
-        | inr other ↦ subst (λ (xs : List Passing). AreInSteps 0 (begin_of p phases (v.terminal.phase + 1) x) xs)
-            (sym (passes.others x other)) (h.playing.up_to x)
-      ] in
-      calls_next first phases scripts roles start mine more m v ticks stand place r call h.playing is at rest blocks
-      limits passes refl (one_call (call_after session p d.next c) call has) good
-      (ap (λ (xs : List Passing). calls_at xs m.step) own_mine ∙ none_at ms (step_at d c) (h.logged_before c)) low up_to
-
-  made_begun : (b : Bool) (n : ℕ) → b ≡ true → (if b then n + 1 else n) ≡ n + 1
-  made_begun true n e = refl
-  made_begun false n e = absurd (false≢true e)
+      next_begins HasOneOrder first phases scripts roles start ticks (logged log) (next_passing session p d) v stand
+      place r call
+      h.playing (can_take first roles v stand (turn.Call place) is) at rest blocks limits refl
+      (one_call (call_after session p d.next r.number) call has) good (h.logged_before r.number) low high
 
   -- .. or the one that it has begun
   pub call_continues : (log : JobLog) (v : PortValue) (d : DeskValue) (ticks : ℕ) (stand : Stand) (place : ℕ) (r : Role)
@@ -354,45 +272,9 @@ module _ (first : Scene) (session : JobsSession) (scripts : Scene → List Scrip
       → call_after session p d.next r.number ≡ Some (plain call)
       → IsCalling first phases scripts roles start (with_call log d v r.number) v ticks stand place call
   call_continues log v d ticks stand place r call h at begun has =
-      let c = r.number in
-      let m = next_passing session p d c in
-      let mine = passings_with session log p d (begun_at v) in
-      let more = with_call log d v c in
-      let ms = by_caller c (passings_on session log p) in
-      let s = scene_on p h.playing.has.session in
-      let plays = (h.playing.each.each s h.playing.has.like h.playing.has.agrees).plays in
-      let next = (standing_at v c).next in
-      let own_mine : mine c ≡ ms ++ m ∷ [] = ap (λ (t : List Passing). ms ++ t) (tail_one (begun_at v c) m begun) in
-      let are : all_calls (mine c) ≡ all_calls ms ++ call ∷ [] =
-      ap all_calls own_mine
-      ∙ (all_more ms m
-      ∙ ap (λ (cs : List PlainCall). all_calls ms ++ cs) (one_call (call_after session p d.next c) call has)) in
-      let made : length (all_calls (mine c)) ≡ next + 1 =
-      h.playing.made c ∙ made_begun (standing_at v c).begun next begun in
-      let longer : length (all_calls (mine c)) ≡ length (all_calls ms) + 1 =
-      ap (λ (cs : List PlainCall). length cs) are ∙ length-append (all_calls ms) (call ∷ []) in
-      let behind : next ≡ length (all_calls ms) + 0 = omega (arith, made, longer) in
-      let known =
-      calls_all p v.terminal.phase phases mine h.playing.has.session c next h.playing.has.by h.playing.up_to
-      ∙ (ap (λ (cs : List PlainCall). slice_get cs next) are ∙ get_past (all_calls ms) (call ∷ []) next 0 behind) in
-      let same : (x : ℕ) → mine x ≡ more x =
-      λ x. elim (cases_eq x c) [
-        | inl own_one ↦ subst (λ (y : ℕ). mine y ≡ more y) (sym own_one)
-            (ap (λ (b : Bool). ms ++ tail b m) (begun ∙ sym (begun_here v c)))
-        | inr other ↦ ap (λ (b : Bool). by_caller x (passings_on session log p) ++ tail b (next_passing session p d x))
-            (sym (begun_elsewhere_too v c x other))
-      ] in
-      calls_as mine more v ticks stand place call same (record {
-        each = h.playing.each;
-        has = h.playing.has;
-        up_to = h.playing.up_to;
-        role = r;
-        at_place = at;
-        own = made;
-        others = λ x other. h.playing.made x;
-        next = next_of_call s (scripts s) roles v stand place r call plays at known
-            ((plays.callers.in_roles place r at).calling begun);
-      })
+      next_continues HasOneOrder first phases scripts roles start ticks (logged log) (next_passing session p d) v stand
+      place r call
+      h.playing at begun (one_call (call_after session p d.next r.number) call has)
 
   -- an attempt that is not answered: the call has begun
   pub call_waits : (log : JobLog) (old new : PortValue) (d : DeskValue) (ticks : ℕ) (was now : Stand) (place : ℕ)
@@ -427,16 +309,11 @@ module _ (first : Scene) (session : JobsSession) (scripts : Scene → List Scrip
       ] in
       let begun = begun_now old new c call makes s on.adds begins_it in
       let same : (x : ℕ) → more x ≡ passings_with session log p d (begun_at new) x =
-      λ x. ap (λ (b : Bool). by_caller x (passings_on session log p) ++ tail b (next_passing session p d x))
-      (elim (cases_eq x c) [
-        | inl own_one ↦
-            subst (λ (y : ℕ). begun_with old c y ≡ begun_at new y) (sym own_one) (begun_here old c ∙ sym begun.0)
-        | inr other ↦
-            begun_elsewhere_too old c x other
-            ∙ sym (begun_same s old new on.adds x (other_is old new c call makes s on.adds x other))
-      ]) in
+      begun_then s old new on.adds (logged log) (next_passing session p d) c begun.0
+      (λ x other. other_is old new c call makes s on.adds x other) in
       record {
-        playing = plays_as more (passings_with session log p d (begun_at new)) new ticks now same
+        playing = plays_as HasOneOrder first phases scripts roles start ticks
+            more (passings_with session log p d (begun_at new)) new now same
             (call_on first phases scripts roles start more old
             new ticks was now place call tried calling is tries plays);
         desk = subst (λ (es : List JobEvent). IsDeskAt first session log new d.jobs d.next d.signals es) (sym idle)
@@ -527,13 +404,15 @@ module _ (first : Scene) (session : JobsSession) (scripts : Scene → List Scrip
       let here_in_phase : IsStepIn p session new.terminal.phase c (step_at d c) =
       subst (λ (k : ℕ). IsStepIn p session k c (step_at d c)) (sym phase) in_phase in
       record {
-        playing = plays_as more (passings_with session later p late (begun_at new)) new ticks now
+        playing = plays_as HasOneOrder first phases scripts roles start ticks
+            more (passings_with session later p late (begun_at new)) new now
             (λ x. elim (cases_eq x c) [
               | inl own_one ↦
                   subst (λ (y : ℕ). more y ≡ passings_with session later p late (begun_at new) y) (sym own_one) here
               | inr other ↦ elsewhere x other
             ]) on_new;
-        desk = desk_passes first session log old new on.adds.entry c d.jobs d.next d.signals call answer j port now_port by
+        desk = desk_passes first session log old new on.adds.entry c d.jobs d.next d.signals call answer j port
+            now_port by
             (λ x other. begun_elsewhere s old new on.adds x (other_is old new c call makes s on.adds x other)) rest
             (of_step_is old new c call makes s on.adds)
             (was_answered old new c call makes s on.adds answer attempts) has here_in_phase makes.kept passes
@@ -581,7 +460,8 @@ module _ (first : Scene) (session : JobsSession) (scripts : Scene → List Scrip
       comes s old new (on.adds.entry ∷ []) in_it.in_turn.plays.of_scene on.plays.of_scene on.adds.added
       (kept_grows old new kept) in
       record {
-        playing = plays_as mine (passings_with session log p d (begun_at new)) new ticks now
+        playing = plays_as HasOneOrder first phases scripts roles start ticks
+            mine (passings_with session log p d (begun_at new)) new now
             (λ c. ap (λ (b : Bool). by_caller c (passings_on session log p) ++ tail b (next_passing session p d c))
             (sym (begun_still s old new on.adds c none)))
             (last_on first phases scripts roles start mine old
@@ -595,29 +475,6 @@ module _ (first : Scene) (session : JobsSession) (scripts : Scene → List Scrip
 
   abbrev with_hangup : JobLog → DeskValue → PortValue → (c h : ℕ) → ℕ → List Passing
   with_hangup log d v c h = hangup_with session log p d v c h
-
-  hangup_elsewhere : (log : JobLog) (d : DeskValue) (v : PortValue) (c h x : ℕ)
-      → (x ≡ c → ⊥)
-      → with_hangup log d v c h x ≡ passings_with session log p d (begun_at v) x
-  hangup_elsewhere log d v c h x other =
-      ap (λ (t : List Passing). passings_with session log p d (begun_at v) x ++ t)
-      (tail_none (x == c) (hangup_of log p c h) (ne_eqb x c other))
-      ∙ append-nil (passings_with session log p d (begun_at v) x)
-
-  hangup_here : (log : JobLog) (d : DeskValue) (v : PortValue) (c h : ℕ)
-      → with_hangup log d v c h c ≡ passings_with session log p d (begun_at v) c ++ hangup_of log p c h ∷ []
-  hangup_here log d v c h =
-      ap (λ (t : List Passing). passings_with session log p d (begun_at v) c ++ t)
-      (tail_one (c == c) (hangup_of log p c h) (eq-eqb c c refl))
-
-  -- what was logged is of earlier steps than the end
-  rests_at : (log : JobLog) (d : DeskValue) (v : PortValue) (c : ℕ)
-      → begun_at v c ≡ false
-      → passings_with session log p d (begun_at v) c ≡ by_caller c (passings_on session log p)
-  rests_at log d v c rest =
-      ap (λ (t : List Passing). by_caller c (passings_on session log p) ++ t)
-      (tail_none (begun_at v c) (next_passing session p d c) rest)
-      ∙ append-nil (by_caller c (passings_on session log p))
 
   pub hangup_begins : (log : JobLog) (v : PortValue) (d : DeskValue) (ticks : ℕ) (stand : Stand) (place : ℕ) (r : Role)
       (handle : ℕ)
@@ -635,35 +492,14 @@ module _ (first : Scene) (session : JobsSession) (scripts : Scene → List Scrip
       (hangs_up handle)
   hangup_begins log v d ticks stand place r handle h is at rest blocks limits good before low high =
       let c = r.number in
-      let m = hangup_of log p c handle in
       let mine = passings_with session log p d (begun_at v) in
-      let more = with_hangup log d v c handle in
-      let ms = by_caller c (passings_on session log p) in
-      let own_mine : mine c ≡ ms = rests_at log d v c rest in
-      let own_more : more c ≡ ms ++ m ∷ [] =
-      hangup_here log d v c handle ∙ ap (λ (xs : List Passing). xs ++ m ∷ []) own_mine in
-      let passes : PassesMore c m mine more = record {
-        own = hangup_here log d v c handle;
-        others = λ x other. hangup_elsewhere log d v c handle x other;
-      } in
-      let in_phase : AreInSteps 0 (begin_of p phases (v.terminal.phase + 1) c) ms =
-      subst (λ (xs : List Passing). AreInSteps 0 (begin_of p phases (v.terminal.phase + 1) c) xs) own_mine
-      (h.playing.up_to c) in
-      let own_steps : AreInSteps 0 (begin_of p phases (v.terminal.phase + 1) c) (more c) =
-      subst (λ (xs : List Passing). AreInSteps 0 (begin_of p phases (v.terminal.phase + 1) c) xs) (sym own_more)
-      (in_steps_more 0 (latest_on log p) (begin_of p phases (v.terminal.phase + 1) c) ms m (omega arith) (omega arith)
-      high
-      (in_steps_below 0 (begin_of p phases (v.terminal.phase + 1) c) (latest_on log p) ms in_phase before)) in
-      let up_to : AreUpTo p phases v.terminal.phase more =
-      λ x. elim (cases_eq x c) [
-        | inl same ↦
-            subst (λ (y : ℕ). AreInSteps 0 (begin_of p phases (v.terminal.phase + 1) y) (more y)) (sym same) own_steps
-        | inr other ↦ subst (λ (xs : List Passing). AreInSteps 0 (begin_of p phases (v.terminal.phase + 1) x) xs)
-            (sym (passes.others x other)) (h.playing.up_to x)
-      ] in
-      calls_next first phases scripts roles start mine more m v ticks stand place r (hangs_up handle)
-      h.playing is at rest blocks limits passes refl refl good
-      (ap (λ (xs : List Passing). calls_at xs m.step) own_mine ∙ none_at ms (latest_on log p) before) low up_to
+      let m = hangup_of log p c handle in
+      more_is_next HasOneOrder first phases scripts roles start ticks mine (with_hangup log d v c handle) m v stand
+      place r
+      (hangs_up handle) h.playing (can_take first roles v stand (turn.Call place) is) at rest blocks limits
+      (passes_then mine c m) refl refl good
+      (subst (λ (xs : List Passing). All (λ x. x.step < m.step) xs)
+      (sym (rests_at (logged log) (next_passing session p d) v c rest)) before) low high
 
   pub hangup_goes_on : (log : JobLog) (old new : PortValue) (d : DeskValue) (ticks : ℕ) (was now : Stand) (place : ℕ)
       (r : Role) (handle : ℕ)
@@ -684,6 +520,7 @@ module _ (first : Scene) (session : JobsSession) (scripts : Scene → List Scrip
       let c = r.number in
       let call = hangs_up handle in
       let tried = done_by done in
+      let mine = passings_with session log p d (begun_at old) in
       let more = with_hangup log d old c handle in
       let m = hangup_of log p c handle in
       let ms = by_caller c (passings_on session log p) in
@@ -706,21 +543,23 @@ module _ (first : Scene) (session : JobsSession) (scripts : Scene → List Scrip
       λ x other. by_other session log p (length new.journal) x event m refl (λ e. other (sym e)) in
       let elsewhere : (x : ℕ) → (x ≡ c → ⊥) → more x ≡ passings_with session later p late (begun_at new) x =
       λ x other.
-      hangup_elsewhere log d old c handle x other
+      (passes_then mine c m).others x other
       ∙ (ap (λ (b : Bool). by_caller x (passings_on session log p) ++ tail b (next_passing session p d x))
       (sym (begun_same s old new on.adds x (other_is old new c call makes s on.adds x other)))
       ∙ ap (λ (xs : List Passing). xs ++ tail (begun_at new x) (next_passing session p d x)) (sym (other_then x other)))
       in
       let here : more c ≡ passings_with session later p late (begun_at new) c =
-      hangup_here log d old c handle ∙ (ap (λ (xs : List Passing). xs ++ m ∷ []) (rests_at log d old c idle)
-      ∙ (sym own_then ∙ sym (rests_at later late new c rest))) in
+      (passes_then mine c m).own ∙ (ap (λ (xs : List Passing). xs ++ m ∷ [])
+      (rests_at (logged log) (next_passing session p d) old c idle)
+      ∙ (sym own_then ∙ sym (rests_at (logged later) (next_passing session p late) new c rest))) in
       let had : (x : ℕ) → HadBegun old new x =
       λ x. elim (cases_eq x c) [
         | inl own_one ↦ λ begun. absurd (false≢true (sym rest ∙ (ap (begun_at new) (sym own_one) ∙ begun)))
         | inr other ↦ begun_elsewhere s old new on.adds x (other_is old new c call makes s on.adds x other)
       ] in
       record {
-        playing = plays_as more (passings_with session later p late (begun_at new)) new ticks now
+        playing = plays_as HasOneOrder first phases scripts roles start ticks
+            more (passings_with session later p late (begun_at new)) new now
             (λ x. elim (cases_eq x c) [
               | inl own_one ↦
                   subst (λ (y : ℕ). more y ≡ passings_with session later p late (begun_at new) y) (sym own_one) here

@@ -7,7 +7,7 @@ use Rattle.tty_calls.specs.declared.answers.Denied.TheVariants.{NoMemory, Full}
 use Rattle.tty_terminal.specs.Terminals.{caller_at}
 use Rattle.port_core.specs.Ports.{PortValue, IsPort}
 use Rattle.one_thread.specs.Acts.{AddsEntry, PlaysEnd}
-use Rattle.one_thread.specs.declared.roles.Role.{Role}
+use Rattle.play_base.specs.declared.roles.Role.{Role}
 use Rattle.one_thread.specs.declared.after_line.Stand.{Stand}
 use Rattle.one_thread.specs.declared.after_line.Turn.TheVariants as turn
 use Rattle.passed_calls.specs.Blocks.{names_on}

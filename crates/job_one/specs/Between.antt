@@ -5,7 +5,7 @@ use Rattle.word_ring.specs.Ends.{PutterState}
 use Rattle.uart_line.specs.LineState.{LineState}
 use Rattle.passed_calls.specs.Derived.{Passing, by_caller}
 use Rattle.port_core.specs.Ports.{PortValue}
-use Rattle.one_thread.specs.Roles.{Scene}
+use Rattle.play_base.specs.Roles.{Scene}
 use Rattle.order_laws.specs.Agreed.{IsBeforeEach}
 use Rattle.job_text.specs.Sessions.{JobsSession}
 use Rattle.job_steps.specs.Derived.{block_phases, passings_on}

@@ -9,7 +9,7 @@ use Rattle.job_control.specs.declared.processes.JobRefusal.{JobRefusal}
 use Rattle.job_control.specs.declared.processes.JobSignal.TheVariants.{Hup, Cont}
 use Rattle.job_control.specs.Control.{JobState, leads_holder}
 use Rattle.job_text.specs.Events.{JobEvent, passed_down, sent}
-use Rattle.job_steps.specs.Steps.{Outcome, leaves, refusal_answer, foreground_target}
+use Rattle.job_steps.specs.Steps.{ControlOutcome, leaves, refusal_answer, foreground_target}
 use Rattle.job_one.specs.declared.controls.Due.{Due}
 use Rattle.job_one.specs.declared.controls.Due.TheVariants as due
 
@@ -30,12 +30,12 @@ told_by (Ok x) = told.Done
 told_by (Err refusal) = refusal_answer refusal
 
 -- a call that is refused for its handle, or else comes to this
-abbrev pub refused_or : JobState → Option JobAnswer → Outcome → Outcome
+abbrev pub refused_or : JobState → Option JobAnswer → ControlOutcome → ControlOutcome
 refused_or jobs None outcome = outcome
 refused_or jobs (Some answer) outcome = leaves answer jobs
 
 -- a call of job control came to this
-abbrev pub came_to : Terminal → (c : ℕ) → JobAnswer → JobState → Due → Outcome
+abbrev pub came_to : Terminal → (c : ℕ) → JobAnswer → JobState → Due → ControlOutcome
 came_to t c answer left due =
     record { answer = answer; left = left; due = due_events due c (position is_live t.handles) }
 

@@ -4,7 +4,7 @@ use Rattle.tty_base.specs.declared.counters.Signal.{Signal}
 use Rattle.tty_calls.specs.Plain.{PlainCall, hangs_up, PlainAnswer, done}
 use Rattle.tty_terminal.specs.Terminals.{Terminal, caller_at, has_begun}
 use Rattle.port_core.specs.Ports.{PortValue}
-use Rattle.one_thread.specs.Roles.{Scene}
+use Rattle.play_base.specs.Roles.{Scene}
 use Rattle.job_control.specs.Control.{JobState, let_go, leader_of}
 use Rattle.passed_calls.specs.Blocks.{names_on}
 use Rattle.job_text.specs.Events.{JobEvent, JobLog}

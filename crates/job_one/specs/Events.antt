@@ -14,12 +14,12 @@ use Rattle.job_control.specs.declared.answers.JobAnswer.TheVariants as told
 use Rattle.job_control.specs.declared.processes.Judged.{Judged}
 use Rattle.job_control.specs.declared.processes.JobAct.{JobAct}
 use Rattle.job_control.specs.declared.processes.JobAct.TheVariants.{Read, Write, Change}
-use Rattle.one_thread.specs.Roles.{Scene}
+use Rattle.play_base.specs.Roles.{Scene}
 use Rattle.job_text.specs.Events.{JobEvent, own, passed, passed_down, sent, JobLog}
 use Rattle.job_text.specs.Sessions.{JobsSession}
 use Rattle.passed_calls.specs.Scripts.{further}
 use Rattle.job_text.specs.declared.calls.OwnCall.{OwnCall}
-use Rattle.job_steps.specs.Steps.{Outcome, any_access, judged_answer, outcome_of}
+use Rattle.job_steps.specs.Steps.{ControlOutcome, any_access, judged_answer, outcome_of}
 use Rattle.job_steps.specs.Steps.{sent_by_stop, job_signal, foreground_target}
 use Rattle.passed_laws.specs.Later.{ComesBy}
 use Rattle.job_one.specs.Desk.{signals_of, IsDeskAt}
@@ -52,12 +52,12 @@ abbrev pub AreOn : ℕ → JobLog → Type 0
 AreOn p log = All (λ l. l.port ≡ p) log
 
 -- nothing but signals
-abbrev pub AreSent : List JobEvent → Type 0
-AreSent [] = Unit {0}
-AreSent (own c step answer ∷ es) = ⊥
-AreSent (passed c step answer ∷ es) = ⊥
-AreSent (passed_down c h ∷ es) = ⊥
-AreSent (sent signal target ∷ es) = AreSent es
+abbrev pub AreSignals : List JobEvent → Type 0
+AreSignals [] = Unit {0}
+AreSignals (own c step answer ∷ es) = ⊥
+AreSignals (passed c step answer ∷ es) = ⊥
+AreSignals (passed_down c h ∷ es) = ⊥
+AreSignals (sent signal target ∷ es) = AreSignals es
 
 -- a caller's call is answered without the port, and its next one comes
 abbrev pub after_call : DeskState → ℕ → DeskState
@@ -67,11 +67,11 @@ abbrev pub answered_own : DeskState → (at c : ℕ) → JobAnswer → DeskState
 answered_own d at c answer = after_call (noted d at (own c (slice_index_or d.next c 0) answer)) c
 
 -- what a call of job control of a caller comes to
-abbrev pub own_outcome : DeskState → PortValue → (c : ℕ) → OwnCall → Outcome
+abbrev pub own_outcome : DeskState → PortValue → (c : ℕ) → OwnCall → ControlOutcome
 own_outcome d v c call = outcome_of d.jobs v.terminal (slice_index_or d.callers c 0) c (further call)
 
 -- it is answered so, and these signals are sent
-abbrev pub controlled : DeskState → PortValue → (c : ℕ) → Outcome → (signals : List JobEvent) → DeskState
+abbrev pub controlled : DeskState → PortValue → (c : ℕ) → ControlOutcome → (signals : List JobEvent) → DeskState
 controlled d v c outcome signals = all_noted
     (record (answered_own d (length v.journal) c outcome.answer) { jobs = outcome.left }) (length v.journal) signals
 

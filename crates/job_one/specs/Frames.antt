@@ -1,15 +1,16 @@
 -- A phase of a port of processes, behind its line, as the player's functions speak of it.
 use Rattle.std.specs.Prelude.{◌≡◌, ◌≤◌, ◌<◌, ◌+◌, ◌-◌, ◌^◌, ℕ, IsTrue, List, [], ◌∷◌}
 use Rattle.std.specs.Prelude.{false, Some, length, slice_get, slice_index_or}
+use Rattle.tty_base.specs.Sizes.{MOST_HANDLES}
 use Rattle.tty_calls.specs.declared.sessions.Script.{Script}
 use Rattle.tty_calls.specs.Plain.{PlainCall, hangs_up}
 use Rattle.tty_terminal.specs.Terminals.{handle_at}
 use Rattle.port_core.specs.Ports.{PortValue}
 use Rattle.handle_table.specs.Handles.{is_live}
-use Rattle.one_thread.specs.Order.{is_of_consoles}
-use Rattle.one_thread.specs.Roles.{Scene}
+use Rattle.one_order.specs.Order.{is_of_consoles}
+use Rattle.play_base.specs.Roles.{Scene}
 use Rattle.one_thread.specs.Turns.{role_numbers, IsTurn}
-use Rattle.one_thread.specs.declared.roles.Role.{Role}
+use Rattle.play_base.specs.declared.roles.Role.{Role}
 use Rattle.one_thread.specs.declared.after_line.Stand.{Stand}
 use Rattle.one_thread.specs.declared.after_line.Turn.{Turn}
 use Rattle.job_control.specs.declared.processes.Judged.TheVariants.{Pass}
@@ -94,7 +95,7 @@ pub record IsHangingUp (f : Frame) (roles : List Role) (v : PortValue) (d : Desk
   pub owing : IsOwing f roles v d stand (passed_down role.number handle ∷ [])
   pub rests : begun_at v role.number ≡ false
   pub live : IsTrue (is_live (handle_at v.terminal handle))
-  pub few : handle < 32
+  pub few : handle < MOST_HANDLES
   pub latest : latest_on d.log f.first.port < slice_index_or d.next role.number 0
   pub calling : IsCalling f.first (block_phases f.session) f.scripts roles f.start
       (hangup_with f.session d.log f.first.port (value_at d) v role.number handle) v f.ticks stand place

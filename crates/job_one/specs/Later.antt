@@ -6,7 +6,7 @@ use Rattle.passed_laws.specs.Later.{IsLater}
 use Rattle.passed_calls.specs.Logs.{logged_on}
 use Rattle.job_text.specs.Events.{JobLog}
 use Rattle.job_text.specs.Sessions.{JobsSession}
-use Rattle.job_steps.specs.Steps.{Port, JobsState, first_state, next_call, first_place, GoesOn, Leads}
+use Rattle.job_steps.specs.Steps.{Port, JobsState, first_state, next_call, first_place, WentToPort, Leads}
 
 abbrev pub port_with : ℕ → JobsSession → Journal → Port
 port_with p session journal = record { number = p; session = session; journal = journal }
@@ -25,4 +25,4 @@ pub record HasGoneOn (p : ℕ) (session : JobsSession) (v : PortValue) (u : Jobs
   pub within : place + 1 ≤ length v.journal
   pub goes_on : (journal : Journal)
       → IsLater v journal
-      → GoesOn (port_with p session journal) u place c (next_call (port_with p session journal) u c)
+      → WentToPort (port_with p session journal) u place c (next_call (port_with p session journal) u c)

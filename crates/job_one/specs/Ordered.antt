@@ -1,7 +1,7 @@
 -- The events of a log in their turn, whatever session the port is found to have played.
 use Rattle.tty_calls.specs.Sessions.{PlainSession}
 use Rattle.port_core.specs.Ports.{PortValue}
-use Rattle.one_thread.specs.Roles.{Scene}
+use Rattle.play_base.specs.Roles.{Scene}
 use Rattle.order_laws.specs.Agreed.{Agrees, IsLike}
 use Rattle.passed_calls.specs.Journals.{Journal}
 use Rattle.passed_calls.specs.Logs.{logged_on}

@@ -1,24 +1,24 @@
 -- What playing a session of processes comes to.
-use Rattle.std.specs.Prelude.{◌≡◌, ◌≢◌, ◌<◌, ◌==◌, ℕ, List, [], ◌∷◌, ◌++◌, Bool, false, Some}
-use Rattle.std.specs.Prelude.{if◌then◌else◌, length, flat_map, slice_get, sum, option_map, unwrap_or}
-use Rattle.std.specs.List.{range_with_len}
+use Rattle.std.specs.Prelude.{◌≡◌, ◌≢◌, ◌<◌, ◌==◌, ℕ, List, ◌++◌, Bool, false, Some}
+use Rattle.std.specs.Prelude.{length, slice_get}
 use Rattle.tty_calls.specs.declared.answers.PortEnd.{PortEnd}
 use Rattle.tty_calls.specs.declared.journals.PortRun.{PortRun}
 use Rattle.tty_calls.specs.Plain.{PlainEntry}
-use Rattle.tty_calls.specs.Sessions.{PlainSession, call_at, counts_on}
-use Rattle.tty_terminal.specs.Terminals.{opening}
-use Rattle.tty_terminal.specs.Standing.{Standing, standing_in, at_first}
-use Rattle.journal_check.specs.Legal.{flip_on}
-use Rattle.one_thread.specs.Played.{IsPlayedOn, IsRunInOrder}
+use Rattle.tty_calls.specs.Sessions.{PlainSession}
+use Rattle.tty_terminal.specs.Standing.{Standing}
+use Rattle.play_base.specs.Played.{IsPlayedOn, IsRunInOrder}
 use Rattle.passed_calls.specs.Blocks.{names_on}
 use Rattle.passed_calls.specs.Logs.{logged_on}
-use Rattle.passed_calls.specs.Derived.{Passing, passed_phases}
+use Rattle.passed_calls.specs.Derived.{Passing}
 use Rattle.job_text.specs.Events.{JobEvent, own, passed, passed_down, sent, JobLog, events_on}
 use Rattle.job_text.specs.Sessions.{JobsSession, blocks_in}
 use Rattle.job_steps.specs.Derived.{block_phases, job_call_at, plain_call, passings_on, derived}
 use Rattle.job_steps.specs.Steps.{Port, JobsState, first_state, next_of, names_of_port, Leads, IsJobsRun}
 use Rattle.job_steps.specs.Order.{AreEventsInTurn}
 use Rattle.passed_laws.specs.Passed.{steps_named}
+use Rattle.passed_laws.specs.Sessions.{BlockSession, played_session, answer_count, begun_call, begun_calls, journal_in}
+use Rattle.passed_laws.specs.Sessions.{journal_on, AreNotFull}
+use Rattle.tty_base.specs.Sizes.{MOST_ENTRIES}
 
 -- ---- the session that was played, also where a journal is full
 
@@ -30,51 +30,41 @@ is_answer_to c (passed_down d h) = false
 is_answer_to c (sent signal target) = false
 
 abbrev pub answered_by : ℕ → List JobEvent → ℕ
-answered_by c events = sum (flat_map (λ e. if is_answer_to c e then 1 ∷ [] else []) events)
+answered_by c events = answer_count is_answer_to c events
 
 -- the call of a caller that the port has begun and not answered
 abbrev pub begun_by : JobsSession → JobLog → (p c : ℕ) → Standing → List Passing
 begun_by session log p c q =
-    if q.begun
-    then record {
-      caller = c;
-      step = answered_by c (events_on p log);
-      calls = plain_call (job_call_at p session c (answered_by c (events_on p log)));
-    } ∷ []
-    else []
+    begun_call (λ x. answered_by x (events_on p log)) (λ x step. plain_call (job_call_at p session x step)) c q
 
 abbrev pub begun_in : JobsSession → JobLog → (p : ℕ) → List PlainEntry → List Passing
 begun_in session log p journal =
-    flat_map (λ c. begun_by session log p c (standing_in c journal at_first))
-    (range_with_len 0 (length (names_on p (blocks_in session))))
+    begun_calls (λ c. answered_by c (events_on p log)) (λ c step. plain_call (job_call_at p session c step))
+    (length (names_on p (blocks_in session))) journal
 
--- the entries of a port
-abbrev pub journal_on : List PortRun → ℕ → List PlainEntry
-journal_on runs p = unwrap_or (option_map (λ run. run.journal.items) (slice_get runs p)) []
+-- all that a port was passed: what it has answered, and what it has begun and not answered
+abbrev pub all_passed : JobsSession → JobLog → (p : ℕ) → List PlainEntry → List Passing
+all_passed session log p journal = passings_on session log p ++ begun_in session log p journal
 
--- with the calls that the ports had begun and not answered, behind each caller's others
-abbrev pub derived_with : JobsSession → JobLog → List PortRun → PlainSession
-derived_with session log runs = record {
+-- the session by the blocks of its callers
+abbrev pub by_blocks : JobsSession → BlockSession
+by_blocks session = record {
   version = session.version;
   ports = session.ports;
   flips = session.flips;
-  phases = passed_phases (λ p. passings_on session log p ++ begun_in session log p (journal_on runs p))
-      (block_phases session);
+  phases = block_phases session;
 }
+
+-- with the calls that the ports had begun and not answered, behind each caller's others
+abbrev pub derived_with : JobsSession → JobLog → List PortRun → PlainSession
+derived_with session log runs = played_session (by_blocks session) (λ p. all_passed session log p (journal_on runs p))
 
 -- ---- a port that was played
 
 -- a port of a session, in the session that was played
 abbrev pub port_in : JobsSession → PlainSession → ℕ → List PlainEntry → Port
-port_in session played p journal = record {
-  number = p;
-  session = session;
-  journal = record {
-    entries = journal;
-    calls = call_at p played;
-    opening = opening (sum (counts_on p played)) (flip_on p played);
-  };
-}
+port_in session played p journal =
+    record { number = p; session = session; journal = journal_in p played journal }
 
 -- its log is a run as far as it went, with each event in its turn
 pub record IsLogged (played : PlainSession) (port : Port) (log : JobLog) : Type 0 where
@@ -94,11 +84,7 @@ pub record IsJobPlayedOn (p : ℕ) (session : JobsSession) (played : PlainSessio
   pub played_on : IsPlayedOn p played run end
   pub in_order : IsRunInOrder p played run
   pub logged : IsLogged played (port_in session played p run.journal.items) log
-  pub whole : length run.journal.items ≢ 4194304 → IsLoggedWhole (port_in session played p run.journal.items) log
-
--- no journal is full
-abbrev pub AreNotFull : List PortRun → Type 0
-AreNotFull runs = (p : ℕ) (run : PortRun) → slice_get runs p ≡ Some run → length run.journal.items ≢ 4194304
+  pub whole : length run.journal.items ≢ MOST_ENTRIES → IsLoggedWhole (port_in session played p run.journal.items) log
 
 -- each port of a session of processes was played, and this is the session that they were played
 pub record AreJobsPlayed (session : JobsSession) (log : JobLog) (runs : List PortRun) (ends : List PortEnd)

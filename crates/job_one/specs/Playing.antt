@@ -4,8 +4,8 @@ use Rattle.tty_calls.specs.declared.sessions.Script.{Script}
 use Rattle.tty_calls.specs.Plain.{hangs_up}
 use Rattle.passed_calls.specs.Derived.{Passing, by_caller}
 use Rattle.port_core.specs.Ports.{PortValue}
-use Rattle.one_thread.specs.Roles.{Scene}
-use Rattle.one_thread.specs.declared.roles.Role.{Role}
+use Rattle.play_base.specs.Roles.{Scene}
+use Rattle.play_base.specs.declared.roles.Role.{Role}
 use Rattle.one_thread.specs.declared.after_line.Stand.{Stand}
 use Rattle.job_control.specs.Control.{JobState}
 use Rattle.job_text.specs.Events.{JobEvent, JobLog}

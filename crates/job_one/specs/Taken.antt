@@ -3,7 +3,7 @@ use Rattle.std.specs.Prelude.{◌≡◌, ◌≤◌, ◌<◌, ◌+◌, ◌-◌, �
 use Rattle.std.specs.Prelude.{[], Some, if◌then◌else◌, length, slice_get, slice_index_or, slice_set}
 use Rattle.tty_terminal.specs.Terminals.{caller_at}
 use Rattle.port_core.specs.Ports.{PortValue}
-use Rattle.one_thread.specs.declared.roles.Role.{Role}
+use Rattle.play_base.specs.declared.roles.Role.{Role}
 use Rattle.one_thread.specs.declared.after_line.Stand.{Stand}
 use Rattle.job_control.specs.declared.processes.Judged.{Judged}
 use Rattle.job_control.specs.declared.processes.Judged.TheVariants.{Pass}

@@ -2,10 +2,10 @@
 
 ghost use Rattle.std.specs.Prelude.{◌≡◌, ◌≢◌, ◌<◌, ◌-◌, [], Some, true, false, not, is_none};
 ghost use Rattle.std.specs.Prelude.{IfOk, IfErr, IsTrue, MatchBool, OnErr, OnOk, if◌then◌else◌};
-ghost use Rattle.std.specs.Prelude.{length, slice_get, slice_index_or, slice_set, sum};
+ghost use Rattle.std.specs.Prelude.{length, slice_index_or, slice_set, sum};
 ghost use Rattle.tty_calls.specs.Plain.{call_of};
 ghost use Rattle.tty_terminal.specs.Terminals.{caller_at, has_begun};
-ghost use Rattle.one_thread.specs.Order.{is_of_consoles};
+ghost use Rattle.one_order.specs.Order.{is_of_consoles};
 ghost use Rattle.one_thread.specs.declared.after_line.Turn.TheVariants as turn;
 ghost use Rattle.job_control.specs.declared.processes.Judged.TheVariants.{Pass};
 ghost use Rattle.passed_calls.specs.Scripts.{plain};
@@ -22,7 +22,8 @@ use calls_left::{NextCall, Remaining};
 use flip_buffer::FlipIn;
 use job_control::Judged;
 use job_text::OwnCall;
-use one_thread::{Role, Stand, Turn, end_calls, end_phase, turn_of};
+use one_thread::{Stand, Turn, end_calls, end_phase, turn_of};
+use play_base::Role;
 use port_core::Port;
 use tty_calls::{Call, Denied};
 
@@ -121,11 +122,11 @@ fn take_last(
     ensures less { OnOk result (turns_left port.new calls.now < turns_left port.old calls.now) }
     ensures err { IfErr result (λ d. StopsTurns d frame roles.now port.new desk.now) }
 {
-    let _ = desk;
-    let _ = calls;
-    let _before = port.journal();
+    let _ = desk; // for the contract alone
+    let _ = calls; // for the contract alone
+    let _before = port.journal(); // known: the journal is a run
     let now = end_calls(port, roles, place, stand)?;
-    let _behind = port.journal();
+    let _behind = port.journal(); // known: the journal is a run
     Ok(now)
 }
 
@@ -214,8 +215,8 @@ pub fn play_after_line(
         stand = play_turn(port, desk, roles, calls, next, stand)?;
         next = turn_of(port, roles, stand.going, clock_first);
     }
-    let _last = port.journal();
+    let _last = port.journal(); // known: the journal is a run
     let run = end_phase(port, putter, roles, stand)?;
-    let _behind = port.journal();
+    let _behind = port.journal(); // known: the journal is a run
     Ok(run)
 }

@@ -1,12 +1,12 @@
 //! The calls of job control: what each is answered, and what is due then.
 
-ghost use Rattle.std.specs.Prelude.{◌≡◌, ◌<◌, ℕ, Option, IsTrue, length, position};
+ghost use Rattle.std.specs.Prelude.{◌≡◌, ◌<◌, ℕ, Option, length, position};
 ghost use Rattle.handle_table.specs.Handles.{is_live};
 ghost use Rattle.tty_terminal.specs.Terminals.{handle_at};
 ghost use Rattle.job_control.specs.Control.{JobState, after_sctty, sctty_refusal, no_terminal, after_notty};
 ghost use Rattle.job_control.specs.Control.{gpgrp_answer, after_spgrp, spgrp_refusal, after_exit};
 ghost use Rattle.job_control.specs.declared.answers.JobAnswer.TheVariants as told;
-ghost use Rattle.job_steps.specs.Steps.{Outcome, done_or, number_or, outcome_of, refusal_answer};
+ghost use Rattle.job_steps.specs.Steps.{ControlOutcome, done_or, number_or, outcome_of, refusal_answer};
 ghost use Rattle.job_steps.specs.Steps.{foreground_target, notty_due, spgrp_outcome, through};
 ghost use Rattle.job_text.specs.declared.calls.OwnCall.TheVariants as own;
 ghost use Rattle.passed_calls.specs.Scripts.{further};
@@ -61,7 +61,7 @@ pub fn foreground(jobs: &Jobs) -> Target
 
 /// Why a call through a handle is refused: there is none, or it is dead.
 pub fn refusal_through(port: &Port, h: u8, dead: Errno) -> Option<JobAnswer>
-    ensures { (jobs : JobState) (outcome : Outcome)
+    ensures { (jobs : JobState) (outcome : ControlOutcome)
         → through jobs (handle_at port.now.terminal h) (told.Refused dead) outcome ≡ refused_or jobs result outcome }
 {
     match port.handle(h) {

@@ -1,19 +1,20 @@
 //! The line of a phase, with the signals that it raises sent on behind each flush.
 
-ghost use Rattle.std.specs.Prelude.{◌≡◌, ◌≤◌, ◌<◌, ◌+◌, ◌-◌, ◌^◌, [], ◌∷◌, IsTrue};
+ghost use Rattle.std.specs.Prelude.{◌≡◌, ◌≤◌, ◌<◌, ◌+◌, ◌-◌, [], ◌∷◌, IsTrue};
 ghost use Rattle.std.specs.Prelude.{IfOk, IfErr, OnOk, All, length, map, take};
+ghost use Rattle.tty_base.specs.Sizes.{LEAST_FLIP, MOST_SENT};
 ghost use Rattle.tty_base.specs.Lines.{arrival, is_step};
 ghost use Rattle.line_steps.specs.Steps.{rx_step, steps_of as steps_of_part};
 ghost use Rattle.uart_line.specs.GoodSteps.{good_steps};
 ghost use Rattle.uart_line.specs.Received.{closed_script};
-ghost use Rattle.one_thread.specs.Stages.{BeginsRun};
+ghost use Rattle.play_base.specs.Scenes.{BeginsRun};
 ghost use Rattle.one_thread.specs.Acts.{BeginsLine, PlaysItsLine, StopsItsLine};
 ghost use Rattle.one_thread.specs.LineInside.{StandsBefore, PlaysSteps, StopsSteps};
 ghost use Rattle.job_one.specs.Along.{SendsAlong, StopsBy};
 
 use crate::desks::Desk;
 use flip_buffer::FlipIn;
-use line_steps::{LineSteps, Part};
+use line_steps::{LinePart, LineSteps};
 use one_thread::{Passed, play_step, play_window};
 use port_core::Port;
 use tty_base::{Flag, Flagged, LineStep, rest_of};
@@ -39,12 +40,12 @@ pub fn play_line(
     ensures sends { OnOk result (SendsAlong port.old port.new desk.old desk.new) }
     ensures stops { IfErr result (λ d. StopsBy d port.old port.new desk.old desk.new) }
 {
-    port.numbers_tell();
+    port.known();
     port.meet(putter);
     let next = play_steps(port, putter, line, desk, steps, run)?;
-    let _journal = port.journal();
+    port.known();
     port.line_end(putter)?;
-    let _end = port.journal();
+    let _end = port.journal(); // known: the journal is a run
     Ok(next)
 }
 
@@ -107,7 +108,7 @@ fn play_part(
     putter: &mut FlipIn,
     line: &mut Line,
     desk: &mut Desk,
-    part: &Part,
+    part: &LinePart,
     run: u32,
 ) -> Result<u32, Denied>
     requires good { All (λ step. IsTrue (is_step step)) (steps_of_part part.now) }
@@ -120,8 +121,15 @@ fn play_part(
     ensures stops { IfErr result (λ d. StopsBy d port.old port.new desk.old desk.new) }
 {
     match part {
-        Part::Run(Flag::Normal, bytes) => play_run(port, putter, line, desk, bytes.as_slice(), run),
-        Part::Run(flag, bytes) => play_flagged(
+        LinePart::Run(Flag::Normal, bytes) => play_run(
+            port,
+            putter,
+            line,
+            desk,
+            bytes.as_slice(),
+            run,
+        ),
+        LinePart::Run(flag, bytes) => play_flagged(
             port,
             putter,
             line,
@@ -130,7 +138,7 @@ fn play_part(
             bytes.as_slice(),
             run,
         ),
-        Part::One(step) => send_step(port, putter, line, desk, *step, run),
+        LinePart::One(step) => send_step(port, putter, line, desk, *step, run),
     }
 }
 
@@ -201,9 +209,9 @@ fn send_window(
 ) -> Result<Passed, Denied>
     requires some { 0 < length bytes.now }
     requires room { line.old.report.arrived + length bytes.now ≤ line.old.most }
-    requires put { line.old.most ≤ (2 ^ 63 - length putter.old.sent) + line.old.handed }
+    requires put { line.old.most ≤ (MOST_SENT - length putter.old.sent) + line.old.handed }
     requires ring { putter.old.ring ≡ port.old.flip.ring }
-    requires some_room { 64 ≤ port.old.flip.capacity }
+    requires some_room { LEAST_FLIP ≤ port.old.flip.capacity }
     requires run { BeginsRun run port.old }
     ensures some { IfOk result (λ passed. 0 < passed.steps) }
     ensures within { IfOk result (λ passed. passed.steps ≤ length bytes.now) }
@@ -214,9 +222,9 @@ fn send_window(
     ensures sends { OnOk result (SendsAlong port.old port.new desk.old desk.new) }
     ensures stops { IfErr result (λ d. StopsBy d port.old port.new desk.old desk.new) }
 {
-    let _before = port.journal();
+    let _before = port.journal(); // known: the journal is a run
     let passed = play_window(port, putter, line, bytes, run);
-    let _behind = port.journal();
+    let _behind = port.journal(); // known: the journal is a run
     let passed = passed?;
     desk.send_new(port)?;
     Ok(passed)
@@ -233,7 +241,7 @@ fn send_step(
 ) -> Result<u32, Denied>
     requires good { IsTrue (is_step step) }
     requires room { line.old.report.arrived + length (arrival step) ≤ line.old.most }
-    requires put { line.old.most ≤ (2 ^ 63 - length putter.old.sent) + line.old.handed }
+    requires put { line.old.most ≤ (MOST_SENT - length putter.old.sent) + line.old.handed }
     requires ring { putter.old.ring ≡ port.old.flip.ring }
     requires run { BeginsRun run port.old }
     ensures ok { IfOk result
@@ -243,9 +251,9 @@ fn send_step(
     ensures sends { OnOk result (SendsAlong port.old port.new desk.old desk.new) }
     ensures stops { IfErr result (λ d. StopsBy d port.old port.new desk.old desk.new) }
 {
-    let _before = port.journal();
+    let _before = port.journal(); // known: the journal is a run
     let next = play_step(port, putter, line, step, run);
-    let _behind = port.journal();
+    let _behind = port.journal(); // known: the journal is a run
     let next = next?;
     desk.send_new(port)?;
     Ok(next)

@@ -11,7 +11,7 @@ ghost use Rattle.job_control.specs.declared.answers.Target.{Target};
 ghost use Rattle.job_control.specs.declared.processes.JobSignal.{JobSignal};
 ghost use Rattle.job_control.specs.declared.processes.Judged.TheVariants.{Pass};
 ghost use Rattle.passed_calls.specs.Scripts.{plain};
-ghost use Rattle.passed_calls.specs.Journals.{Journal, terminal_at};
+ghost use Rattle.passed_calls.specs.Journals.{Journal};
 ghost use Rattle.job_text.specs.Events.{JobEvent, own, passed, passed_down, sent, JobLog};
 ghost use Rattle.job_text.specs.Sessions.{JobCall, JobsSession};
 ghost use Rattle.job_steps.specs.Derived.{IsStepIn};

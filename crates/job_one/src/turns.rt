@@ -1,6 +1,6 @@
 //! The turns that come after the line of a phase, one by one.
 
-ghost use Rattle.std.specs.Prelude.{◌≡◌, Some, IfOk, IfErr, OnOk, slice_get};
+ghost use Rattle.std.specs.Prelude.{Some, IfOk, IfErr};
 ghost use Rattle.passed_calls.specs.Scripts.{plain, further};
 ghost use Rattle.one_thread.specs.declared.after_line.Turn.TheVariants as turn;
 ghost use Rattle.tty_calls.specs.Plain.{call_of};
@@ -11,7 +11,8 @@ ghost use Rattle.job_one.specs.Taken.{IsNextOf, TakesCall, TakesNoCall};
 use crate::controls::hangup_through;
 use crate::desks::Desk;
 use job_text::OwnCall;
-use one_thread::{Role, Stand, flush, pass, try_call};
+use one_thread::{Stand, flush, pass, try_call};
+use play_base::Role;
 use port_core::{Port, Tried};
 use tty_calls::{Call, Denied};
 
@@ -35,9 +36,9 @@ pub fn take_flush(
     ensures ok { IfOk result (λ now. TakesNoCall frame roles.now port.old port.new desk.old desk.new now) }
     ensures err { IfErr result (λ d. StopsTurns d frame roles.now port.new desk.new) }
 {
-    let _before = port.journal();
+    let _before = port.journal(); // known: the journal is a run
     let now = flush(port, roles, stand)?;
-    let _behind = port.journal();
+    let _behind = port.journal(); // known: the journal is a run
     desk.send_new(port)?;
     Ok(now)
 }
@@ -55,10 +56,10 @@ pub fn take_pass(
     ensures ok { IfOk result (λ now. TakesNoCall frame roles.now port.old port.new desk.now desk.now now) }
     ensures err { IfErr result (λ d. StopsTurns d frame roles.now port.new desk.now) }
 {
-    let _ = desk;
-    let _before = port.journal();
+    let _ = desk; // for the contract alone
+    let _before = port.journal(); // known: the journal is a run
     let now = pass(port, roles, stand)?;
-    let _behind = port.journal();
+    let _behind = port.journal(); // known: the journal is a run
     Ok(now)
 }
 
@@ -80,9 +81,9 @@ pub fn take_call(
     ensures err { IfErr result (λ d. StopsTurns d frame roles.now port.new desk.new) }
 {
     let caller = roles[place].number;
-    let _before = port.journal();
+    let _before = port.journal(); // known: the journal is a run
     let (tried, now) = try_call(port, roles, place, call, stand)?;
-    let _behind = port.journal();
+    let _behind = port.journal(); // known: the journal is a run
     match tried {
         Tried::Done(answer) => {
             desk.pass_answer(port, caller, call, answer)?;
@@ -119,7 +120,7 @@ pub fn take_stop(
     ensures err { IfErr result (λ d. StopsTurns d frame roles.now port.now desk.new) }
 {
     let caller = roles[place].number;
-    let _journal = port.journal();
+    port.known();
     let judged = desk.judge(port, caller, call);
     desk.stop(port, caller, judged)?;
     Ok(Taken {
@@ -147,7 +148,7 @@ pub fn take_own(
     ensures err { IfErr result (λ d. StopsTurns d frame roles.now port.new desk.new) }
 {
     let caller = roles[place].number;
-    let _journal = port.journal();
+    port.known();
     let due = desk.control(port, caller, call)?;
     match hangup_through(port, due) {
         Some(h) => {
@@ -180,9 +181,9 @@ fn hang_up(
     ensures err { IfErr result (λ d. StopsTurns d frame roles.now port.new desk.new) }
 {
     let caller = roles[place].number;
-    let _before = port.journal();
+    let _before = port.journal(); // known: the journal is a run
     let (_tried, now) = try_call(port, roles, place, &Call::Vhangup { h }, stand)?;
-    let _behind = port.journal();
+    let _behind = port.journal(); // known: the journal is a run
     desk.pass_down(port, caller, h)?;
     Ok(now)
 }

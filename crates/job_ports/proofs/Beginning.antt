@@ -11,13 +11,13 @@ use Rattle.tty_calls.specs.declared.sessions.Phase.{Phase}
 use Rattle.tty_calls.specs.Limits.{IsWithinLimits}
 use Rattle.tty_calls.specs.Sessions.{PlainScript, PlainPhase, phase_of, session_of}
 use Rattle.tty_calls.specs.Sessions.{script_of, scripts_on, line_on, ticks_on}
-use Rattle.journal_check.specs.Legal.{phase_at}
-use Rattle.one_thread.specs.Order.{is_of_consoles}
-use Rattle.one_thread.specs.Roles.{Scene, scene_of, names_in, role_in}
-use Rattle.one_thread.specs.Casting.{AreNumbered, HaveSameCallers, IsNumbered}
-use Rattle.one_thread.specs.Casting.{own_scripts, scripts_in, scripts_at, cast_of}
-use Rattle.one_thread.specs.declared.roles.Role.{Role}
-use Rattle.one_thread.proofs.RoleLemmas.{phase_numbered, few_names_in}
+use Rattle.legal_runs.specs.Legal.{phase_at}
+use Rattle.one_order.specs.Order.{is_of_consoles}
+use Rattle.play_base.specs.Roles.{Scene, scene_of, names_in, role_in}
+use Rattle.play_base.specs.Casting.{AreNumbered, HaveSameCallers, IsNumbered, own_scripts, scripts_in, scripts_at}
+use Rattle.play_base.specs.Casting.{cast_of}
+use Rattle.play_base.specs.declared.roles.Role.{Role}
+use Rattle.play_base.proofs.RoleLemmas.{phase_numbered, few_names_in}
 use Rattle.passed_calls.specs.declared.placed.PlacedCall.{PlacedCall}
 use Rattle.job_text.specs.declared.calls.OwnCall.{OwnCall}
 use Rattle.job_text.specs.declared.sessions.JobsSession.{JobsSession as KeptSession}

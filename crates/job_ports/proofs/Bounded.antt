@@ -14,7 +14,8 @@ use Rattle.tty_calls.specs.Sessions.{ticks_on, scripts_on, with_name}
 use Rattle.passed_calls.specs.declared.placed.PlacedCall.{PlacedCall}
 use Rattle.passed_calls.specs.Blocks.{Block, bare, blocks_on}
 use Rattle.passed_calls.specs.Derived.{BlockPhase}
-use Rattle.passed_calls.specs.Scripts.{AnyCall, CallerScript, plain, further, block_of, count_in, mixed, mixed_scripts, phases_with}
+use Rattle.passed_calls.specs.Scripts.{CallerScript, plain, further, block_of, count_in, mixed, mixed_scripts}
+use Rattle.passed_calls.specs.Scripts.{phases_with}
 use Rattle.passed_calls.specs.Within.{IsBlockPhaseWithin, IsAnyCallWithin, AreCallsWithin}
 use Rattle.job_text.specs.declared.calls.OwnCall.{OwnCall}
 use Rattle.job_text.specs.declared.sessions.PortProc.{PortProc}

@@ -1,39 +1,36 @@
 -- What a phase is played of: the roles of its callers, and what they have to call.
-use Rattle.std.proofs.Common.{◌≡◌, ◌≤◌, ◌<◌, inl, inr, ℕ, zero, suc, ◌+◌, ◌==◌, List, [], ◌∷◌, ◌++◌}
-use Rattle.std.proofs.Common.{Option, Some, length, map, filter, sum, refl, sym, ap, ◌∙◌, subst, arith, append-nil}
+use Rattle.std.proofs.Common.{◌≡◌, ◌≤◌, ◌<◌, ℕ, zero, suc, ◌+◌, List, [], ◌∷◌, ◌++◌}
+use Rattle.std.proofs.Common.{Option, Some, length, map, sum, refl, sym, ap, ◌∙◌, subst, arith, append-nil}
 use Rattle.std.specs.Prelude.{All, slice_get, slice_index_or, flat_map}
-use Rattle.std.proofs.lemmas.Bool.{cases_eq}
 use Rattle.tty_calls.specs.declared.sessions.Script.{Script}
 use Rattle.tty_calls.specs.Sessions.{PlainScript, PlainPhase, PlainSession}
 use Rattle.tty_calls.specs.Sessions.{script_of, scripts_over}
-use Rattle.tty_terminal.specs.Terminals.{Terminal, caller_at}
-use Rattle.journal_check.specs.Legal.{phase_at}
-use Rattle.one_thread.specs.Roles.{Scene, names_in, role_in}
-use Rattle.one_thread.specs.Casting.{IsNumbered, own_scripts, cast_of}
-use Rattle.one_thread.specs.declared.roles.Role.{Role}
-use Rattle.one_thread.proofs.NameLemmas.{number_at, few_names}
-use Rattle.one_thread.proofs.RoleLemmas.{phase_numbered, sum_counts}
+use Rattle.legal_runs.specs.Legal.{phase_at}
+use Rattle.play_base.specs.Roles.{Scene, names_in, role_in}
+use Rattle.play_base.specs.Casting.{IsNumbered, own_scripts, cast_of}
+use Rattle.play_base.specs.declared.roles.Role.{Role}
+use Rattle.play_base.proofs.NameLemmas.{number_at, few_names}
+use Rattle.play_base.proofs.RoleLemmas.{phase_numbered, sum_counts}
 use Rattle.order_laws.proofs.Shapes.{names_same, counts_same}
 use Rattle.passed_calls.specs.declared.placed.PlacedCall.{PlacedCall}
 use Rattle.passed_calls.specs.Blocks.{names_on}
-use Rattle.passed_calls.specs.Derived.{Passing, Passed, BlockPhase, blocks_of, by_caller, passed_phases}
+use Rattle.passed_calls.specs.Derived.{Passed, BlockPhase, blocks_of, passed_phases}
 use Rattle.passed_calls.specs.Scripts.{CallerScript, block_of, mixed_scripts, phases_with, numbered_call}
 use Rattle.passed_calls.specs.Within.{IsBlockPhaseWithin}
 use Rattle.passed_calls.proofs.Names.{names_stay}
 use Rattle.job_text.specs.declared.calls.OwnCall.{OwnCall}
 use Rattle.job_text.specs.declared.sessions.PortProc.{PortProc}
-use Rattle.job_text.specs.Sessions.{JobCall, JobsPhase, JobsSession, block_phase_of, phase_with, session_with, blocks_in}
+use Rattle.job_text.specs.Sessions.{JobCall, JobsPhase, JobsSession, block_phase_of, phase_with, session_with}
+use Rattle.job_text.specs.Sessions.{blocks_in}
 use Rattle.job_text.specs.Within.{IsJobsSessionWithin}
 use Rattle.job_steps.specs.Derived.{block_phases, job_call_at}
 use Rattle.passed_laws.specs.Passed.{IsPassedBy, begin_of}
-use Rattle.passed_laws.specs.Filled.{AreNextSteps}
 use Rattle.calls_left.specs.Remaining.{calls_of_port}
 use Rattle.job_one.specs.Remaining.{AreLeft}
 use Rattle.passed_laws.proofs.Blocks.{of_blocks, same_shape}
 use Rattle.job_one.proofs.Plain.{plain_of_blocks}
-use Rattle.passed_laws.proofs.Steps.{step_own, step_other}
+use Rattle.job_one.specs.Played.{by_blocks}
 use Rattle.passed_ports.specs.Ports.{IsSceneOf}
-use Rattle.job_ports.specs.Ports.{by_blocks}
 use Rattle.job_ports.specs.Between.{IsBetween}
 use Rattle.job_ports.specs.declared.phases.JobStation.{JobStation}
 use Rattle.passed_laws.proofs.Shares.{on_port, over, all_counted, blocks_one}
@@ -171,7 +168,8 @@ calls_left p k base procs parts scripts placed steps roles run at limits lt call
     let left = map (λ (s : One). s.calls) (on_port p phase.callers) in
     let mixed_is : mixed_scripts 0 (map script_of scripts) placed ≡ phase.callers = λ i.
     mixed_scripts 0 (callers i) (beside i) in
-    let shares : AreSharesLeft p k phases (numbered_call names (over p (callers_in session))) roles at.desk.next left 0 =
+    let shares : AreSharesLeft p k phases (numbered_call names (over p (callers_in session))) roles at.desk.next left
+    0 =
     shares_left p k phases (callers_in session) scripts names [] steps phase.callers at.desk.next roles
     (shares_of p k base procs parts scripts run at limits lt callers h) cast in
     let its : AreSharesLeft p k phases (job_call_at p session) roles at.desk.next left 0 =

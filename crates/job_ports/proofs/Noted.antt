@@ -1,64 +1,32 @@
 -- What a log that was read tells of its port: how many calls of each caller were answered, and how many signals were
 -- sent.
-use Rattle.std.proofs.Common.{◌≡◌, ◌≤◌, ◌<◌, ℕ, zero, suc, ◌+◌, ◌==◌, Bool, true, false, inl, inr, List, [], ◌∷◌}
-use Rattle.std.proofs.Common.{◌++◌, Option, None, Some, length, map, if◌then◌else◌, refl, sym, ap, ◌∙◌, subst, arith}
-use Rattle.std.specs.Prelude.{nat_le, slice_get, slice_set, slice_index_or, sum, flat_map}
-use Rattle.std.proofs.lemmas.Bool.{cases_eq, eq-eqb, ne_eqb}
+use Rattle.std.proofs.Common.{◌≡◌, ◌≤◌, ◌<◌, ℕ, suc, ◌+◌, ◌==◌, Bool, false, List, [], ◌∷◌}
+use Rattle.std.proofs.Common.{length, map, if◌then◌else◌, refl, sym, ap, ◌∙◌, subst, arith}
+use Rattle.std.specs.Prelude.{nat_le, slice_set, slice_index_or}
 use Rattle.std.proofs.lemmas.Bool.Decides.{nat_tests}
-use Rattle.std.proofs.lemmas.List.Sums.{sum_by-cons}
-use Rattle.tty_terminal.specs.Terminals.{Terminal}
-use Rattle.tty_calls.specs.Plain.{opens, closes, reads, writes, gets_modes, sets_modes, gets_disc}
-use Rattle.tty_calls.specs.Plain.{sets_disc, flushes, steers, counts_input, counts_output, excludes, admits}
-use Rattle.tty_calls.specs.Plain.{drains, gets_counts, hangs_up, sends_packet, takes_packet, PlainAnswer}
-use Rattle.tty_calls.specs.Plain.{done, count_is, got, number_is, modes_are, counts_are, refused, idle}
-use Rattle.passed_calls.specs.Scripts.{plain, further}
 use Rattle.passed_calls.specs.Journals.{terminal_at}
 use Rattle.job_control.specs.declared.answers.Target.{Target}
 use Rattle.job_control.specs.declared.processes.JobSignal.{JobSignal}
 use Rattle.job_text.specs.Events.{JobEvent, own, passed, passed_down, sent, JobLog}
-use Rattle.job_text.specs.Sessions.{JobCall}
 use Rattle.job_steps.specs.Steps.{Port, JobsState, proc_of, next_of, next_call, raised_at, IsSent}
 use Rattle.job_steps.specs.Steps.{IsAllowed, after_own, answered_for, after_passed, after_event, Leads}
 use Rattle.job_one.specs.Played.{is_answer_to, answered_by}
-use Rattle.passed_laws.proofs.Steps.{step_own, step_other}
+use Rattle.passed_laws.proofs.Answering.{one_or_none, stepped, set_length, answers_more}
 use Rattle.job_one.proofs.Keeping.{Keeps, own_keeps, passed_keeps}
 use Rattle.job_one.proofs.Rising.{raised_rise}
+use Rattle.passed_ports.proofs.Joining.{below_if}
 
 -- ---- answers
-
-abbrev one_if : Bool → ℕ
-one_if b = if b then 1 else 0
-
--- a caller's next step once one caller's call was answered
-stepped : (ns : List ℕ) (d c : ℕ)
-    → c < length ns
-    → slice_index_or (slice_set ns d (slice_index_or ns d 0 + 1)) c 0 ≡ slice_index_or ns c 0 + one_if (d == c)
-stepped ns d c known =
-    elim (cases_eq c d) [
-      | inl same ↦
-          subst (λ (x : ℕ).
-          slice_index_or (slice_set ns x (slice_index_or ns x 0 + 1)) c 0 ≡ slice_index_or ns c 0 + one_if (x == c))
-          same
-          (step_own ns c (slice_index_or ns c 0 + 1) known
-          ∙ ap (λ (b : Bool). slice_index_or ns c 0 + one_if b) (sym (eq-eqb c c refl)))
-      | inr other ↦
-          step_other ns d c (slice_index_or ns d 0 + 1) other
-          ∙ (let none : one_if (d == c) ≡ 0 = ap one_if (ne_eqb d c (λ e. other (sym e))) in omega (arith, none))
-    ]
 
 answered_next : (s u : JobsState) (d c : ℕ)
     → Keeps s u
     → c < length s.next
-    → next_of (answered_for u d) c ≡ next_of s c + one_if (d == c)
+    → next_of (answered_for u d) c ≡ next_of s c + one_or_none (d == c)
 answered_next s u d c keeps known =
     subst
-    (λ (ns : List ℕ). slice_index_or (slice_set ns d (slice_index_or ns d 0 + 1)) c 0 ≡ next_of s c + one_if (d == c))
+    (λ (ns : List ℕ). slice_index_or (slice_set ns d (slice_index_or ns d 0 + 1)) c 0
+    ≡ next_of s c + one_or_none (d == c))
     (sym keeps.next) (stepped s.next d c known)
-
-set_length : (ns : List ℕ) (i x : ℕ) → length (slice_set ns i x) ≡ length ns
-set_length [] i x = refl
-set_length (n ∷ ns) zero x = refl
-set_length (n ∷ ns) (suc i) x = ap suc (set_length ns i x)
 
 many_next : (port : Port) (s : JobsState) (at : ℕ) (event : JobEvent)
     → length (after_event port s at event).next ≡ length s.next
@@ -73,7 +41,7 @@ many_next port s at (sent signal target) = refl
 
 event_next : (port : Port) (s : JobsState) (at : ℕ) (event : JobEvent) (c : ℕ)
     → c < length s.next
-    → next_of (after_event port s at event) c ≡ next_of s c + one_if (is_answer_to c event)
+    → next_of (after_event port s at event) c ≡ next_of s c + one_or_none (is_answer_to c event)
 event_next port s at (own d step answer) c known =
     answered_next s (after_own (terminal_at port.journal at) (proc_of port d) d s at (next_call port s d)) d c
     (own_keeps (terminal_at port.journal at) (proc_of port d) d s at (next_call port s d)) known
@@ -82,10 +50,6 @@ event_next port s at (passed d step answer) c known =
     known
 event_next port s at (passed_down d h) c known = omega arith
 event_next port s at (sent signal target) c known = omega arith
-
-pub answers_more : (b : Bool) (ns : List ℕ) → sum ((if b then 1 ∷ [] else []) ++ ns) ≡ one_if b + sum ns
-answers_more true ns = sum_by-cons (λ (x : ℕ). x) 1 ns
-answers_more false ns = omega arith
 
 abbrev events_in : JobLog → List JobEvent
 events_in log = map (λ l. l.event) log
@@ -101,16 +65,10 @@ answers_counted port s u (l ∷ log) c leads known =
     let many = many_next port s l.at l.event in
     let rest = answers_counted port next u log c leads.3 (omega (arith, known, many)) in
     let here = event_next port s l.at l.event c known in
-    let more =
-    answers_more (is_answer_to c l.event) (flat_map (λ e. if is_answer_to c e then 1 ∷ [] else []) (events_in log)) in
+    let more = answers_more is_answer_to c l.event (events_in log) in
     omega (arith, rest, here, more)
 
 -- ---- signals
-
-pub below_if : {X : Type 0} (xs : List X) (i : ℕ) (x : X) → slice_get xs i ≡ Some x → i < length xs
-below_if [] i x is = absurd (cc)
-below_if (y ∷ ys) zero x is = omega arith
-below_if (y ∷ ys) (suc i) x is = let rest = below_if ys i x is in omega (arith, rest)
 
 not_none : (n : ℕ) → nat_le (suc n) 0 ≡ false
 not_none n = grind (arith, nat_tests)

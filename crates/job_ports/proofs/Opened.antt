@@ -7,11 +7,11 @@ use Rattle.std.specs.Str.{bytes_eq}
 use Rattle.std.specs.List.{position_or_len}
 use Rattle.std.proofs.lemmas.Bool.{cases_eq, ltb-false}
 use Rattle.std.proofs.lemmas.Bool.Decides.{nat_tests}
-use Rattle.std.proofs.lemmas.List.{drop_all, get_or-set_same, get_or-set_other, length-replicate, length-set}
+use Rattle.std.proofs.lemmas.List.{get_or-set_same, get_or-set_other, length-set}
 use Rattle.std.proofs.lemmas.Option.{slice_get_within}
 use Rattle.std.proofs.lemmas.Slice.Eq.{bytes_eq-Decides}
 use Rattle.tty_calls.specs.Sessions.{number_in}
-use Rattle.journal_check.proofs.TurnLemmas.{at_number}
+use Rattle.legal_runs.proofs.ScriptLemmas.{at_number}
 use Rattle.job_control.specs.declared.processes.Proc.{Proc}
 use Rattle.job_text.specs.declared.sessions.PortProc.{PortProc}
 use Rattle.job_text.specs.Sessions.{procs_on, proc_place}
@@ -82,17 +82,6 @@ all_at : (n x c : ℕ) → c < n → slice_index_or (replicate n x) c 0 ≡ x
 all_at zero x c lt = absurd (omega (arith, lt))
 all_at (suc n) x zero lt = refl
 all_at (suc n) x (suc c) lt = all_at n x c (omega (arith, lt))
-
-pub none_noted : (procs : List Proc) (names : List (List ℕ)) (callers : List ℕ)
-    → callers ≡ replicate (length names) (length procs)
-    → AreNoted procs names (length procs) callers
-none_noted procs names callers are = subst (AreNoted procs names (length procs)) (sym are) (record {
-  many = length-replicate (length names) (length procs);
-  each = λ c name is.
-      (let none = ap (λ (ps : List Proc). place_from ps name) (drop_all (length procs) procs (omega arith)) in
-      let here = all_at (length names) (length procs) c (slice_get_within names c name is) in
-      omega (arith, none, here));
-})
 
 -- one process more, which may be a caller's
 first_named : (x : Proc) (xs : List Proc) (name : List ℕ)

@@ -13,13 +13,14 @@ use Rattle.tty_calls.specs.declared.sessions.Script.{Script}
 use Rattle.tty_calls.specs.Sessions.{line_on, ticks_on}
 use Rattle.tty_terminal.specs.declared.callers.CallerState.{CallerState}
 use Rattle.tty_terminal.specs.Terminals.{has_begun}
-use Rattle.journal_check.specs.Legal.{phase_at}
+use Rattle.legal_runs.specs.Legal.{phase_at}
 use Rattle.port_core.specs.Ports.{PortValue, IsPort}
 use Rattle.one_thread.specs.Acts.{BeginsLine, BeginsInOrder, PlaysItsLine, StopsItsLine, Playing}
-use Rattle.one_thread.specs.Roles.{Scene, names_in}
-use Rattle.one_thread.specs.Lines.{IsAtPhase, PlaysLine}
+use Rattle.play_base.specs.Roles.{Scene, names_in}
+use Rattle.play_base.specs.Beginning.{IsAtPhase}
+use Rattle.one_thread.specs.Lines.{PlaysLine}
 use Rattle.one_thread.specs.Stages.{EndsAfterLine, StopsAfterLine}
-use Rattle.one_thread.specs.declared.roles.Role.{Role}
+use Rattle.play_base.specs.declared.roles.Role.{Role}
 use Rattle.one_thread.proofs.StationLemmas.{at_next_phase, stopped_in_line, stopped_after_line}
 use Rattle.order_laws.specs.Agreed.{IsLike, AreRolesOfEach}
 use Rattle.order_laws.proofs.Agreeing.{before_all}
@@ -46,9 +47,8 @@ use Rattle.passed_laws.proofs.Casts.{roles_each}
 use Rattle.job_one.proofs.Phasing.{phase_begins, phase_ends}
 use Rattle.passed_laws.proofs.Witnessed.{begins_line, end_on}
 use Rattle.job_ports.specs.declared.phases.JobStation.{JobStation}
-use Rattle.passed_ports.specs.Ports.{IsSceneOf}
 use Rattle.job_ports.specs.Ports.{IsJobsFull}
-use Rattle.job_ports.specs.Between.{IsBetween, IsStoppedBy, Setting, AreCastIn, BeginsPhase}
+use Rattle.job_ports.specs.Between.{IsStoppedBy, Setting, BeginsPhase}
 
 -- ---- the line
 

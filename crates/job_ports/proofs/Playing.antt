@@ -1,6 +1,6 @@
 -- A session that was played, and the port that it agrees with: hung up after all phases, or full.
-use Rattle.std.proofs.Common.{◌≡◌, inl, inr, ℕ, ◌==◌}
-use Rattle.std.proofs.Common.{false, List, [], ◌∷◌, ◌++◌, Option, length, map, take, sum}
+use Rattle.std.proofs.Common.{◌≡◌, inl, inr, ℕ}
+use Rattle.std.proofs.Common.{List, [], ◌∷◌, ◌++◌, length, map, take}
 use Rattle.std.proofs.Common.{flat_map, refl, sym, ap, ◌∙◌, subst, arith, append-nil}
 use Rattle.std.specs.Prelude.{slice_get, slice_index_or}
 use Rattle.std.proofs.lemmas.List.{length-map}
@@ -11,22 +11,19 @@ use Rattle.word_ring.specs.Ends.{PutterState}
 use Rattle.uart_line.specs.LineState.{LineState}
 use Rattle.tty_calls.specs.declared.answers.PortEnd.{PortEnd}
 use Rattle.tty_calls.specs.declared.journals.PortRun.{PortRun}
-use Rattle.tty_calls.specs.Plain.{PlainCall, PlainEntry}
-use Rattle.tty_calls.specs.Sessions.{PlainSession, line_on, call_at, counts_on}
-use Rattle.tty_terminal.specs.Terminals.{Terminal, opening, caller_at, has_begun}
+use Rattle.tty_calls.specs.Plain.{PlainEntry}
+use Rattle.tty_calls.specs.Sessions.{PlainSession}
+use Rattle.tty_terminal.specs.Terminals.{Terminal, opening, has_begun}
 use Rattle.tty_terminal.specs.Steps.{after}
-use Rattle.tty_terminal.specs.Standing.{Standing, standing_after, standing_in, at_first}
 use Rattle.tty_terminal.specs.declared.callers.CallerState.{CallerState}
-use Rattle.tty_terminal.proofs.StandingLaws.{run_stands}
-use Rattle.journal_check.specs.Legal.{flip_on}
-use Rattle.port_core.specs.Ports.{PortValue, IsPort, call_in, hangup_entry}
-use Rattle.one_thread.specs.Roles.{Scene}
-use Rattle.one_thread.specs.Lines.{IsAtPhase}
-use Rattle.one_thread.specs.Phases.{HavePlayedInOrder, HaveSeenAll, IsPortOf, IsFullRun, IsAtEnd}
-use Rattle.one_thread.specs.Leaving.{EndsJournal}
-use Rattle.one_thread.specs.Played.{IsPlayedOn, IsRunInOrder}
-use Rattle.one_thread.specs.Stages.{IsOfScene}
-use Rattle.one_thread.proofs.PortLemmas.{port_of_scene, at_end_of, full_in_order}
+use Rattle.port_core.specs.Ports.{PortValue, IsPort, hangup_entry}
+use Rattle.play_base.specs.Roles.{Scene}
+use Rattle.play_base.specs.Beginning.{IsAtPhase}
+use Rattle.play_base.specs.Phases.{HavePlayedInOrder, HaveSeenAll, IsPortOf, IsFullRun, IsAtEnd}
+use Rattle.play_base.specs.Leaving.{EndsJournal}
+use Rattle.play_base.specs.Played.{IsPlayedOn, IsRunInOrder}
+use Rattle.play_base.specs.Scenes.{IsOfScene}
+use Rattle.play_base.proofs.PortLemmas.{port_of_scene, at_end_of, full_in_order}
 use Rattle.order_laws.specs.Agreed.{Agrees, IsLike}
 use Rattle.order_laws.proofs.Shapes.{phases_same}
 use Rattle.passed_calls.specs.Blocks.{Block, names_on}
@@ -34,12 +31,12 @@ use Rattle.passed_calls.specs.Derived.{Passing, BlockPhase, by_caller, blocks_of
 use Rattle.passed_calls.specs.Journals.{Journal, terminal_after, terminal_at}
 use Rattle.passed_calls.specs.Logs.{logged_on}
 use Rattle.passed_calls.specs.Scripts.{block_of}
-use Rattle.job_text.specs.Events.{JobEvent}
+use Rattle.job_text.specs.Events.{JobEvent, events_on}
 use Rattle.job_text.specs.Sessions.{JobsPhase, JobsSession, block_phase_of, blocks_in}
 use Rattle.job_steps.specs.Derived.{block_phases, passings_on}
 use Rattle.job_steps.specs.Steps.{first_state, raised_at, job_signal}
-use Rattle.passed_laws.specs.Passed.{IsPassedBy, steps_named, begin_of}
-use Rattle.passed_laws.specs.Witness.{scene_on, HasPassed}
+use Rattle.passed_laws.specs.Passed.{steps_named, begin_of}
+use Rattle.passed_laws.specs.Witness.{scene_on}
 use Rattle.passed_laws.specs.Later.{IsLater}
 use Rattle.job_one.specs.Later.{port_with}
 use Rattle.job_one.specs.Desk.{signals_of, IsDeskAt}
@@ -47,18 +44,18 @@ use Rattle.job_one.specs.Events.{DeskState}
 use Rattle.job_one.specs.Between.{value_at, passed_by}
 use Rattle.passed_laws.specs.Begun.{begun_at}
 use Rattle.job_one.specs.Playing.{passings_with}
-use Rattle.job_one.specs.Played.{port_in, IsLogged, IsLoggedWhole}
-use Rattle.passed_laws.proofs.Adding.{like_first}
-use Rattle.passed_laws.proofs.Blocks.{of_blocks, same_shape}
+use Rattle.job_one.specs.Played.{port_in, IsLogged, IsLoggedWhole, by_blocks, all_passed}
 use Rattle.passed_laws.proofs.Laters.{front, terminal_now}
+use Rattle.passed_laws.specs.Sessions.{journal_in}
 use Rattle.job_one.proofs.Raised.{entry_still}
 use Rattle.passed_ports.specs.Ports.{IsSceneOf}
-use Rattle.job_ports.specs.Ports.{by_blocks, all_passed, IsPortPlayed, IsJobsEnd, IsJobsFull}
-use Rattle.passed_ports.proofs.Played.{like_played, agrees_played, standing_more, after_append, take_all, idle_then}
-use Rattle.passed_ports.proofs.Played.{later_then, journal_in, is_later, phases_many}
+use Rattle.job_ports.specs.Ports.{IsPortPlayed, IsJobsEnd, IsJobsFull}
+use Rattle.passed_ports.proofs.Played.{like_played, agrees_played, after_append, take_all, idle_then}
+use Rattle.passed_ports.proofs.Played.{later_then, is_later, phases_many}
 use Rattle.job_ports.proofs.Noted.{signals_few}
 use Rattle.passed_ports.proofs.Started.{within_of}
-use Rattle.job_ports.proofs.Started.{mine_is, nothing_begun}
+use Rattle.job_ports.proofs.Started.{mine_is}
+use Rattle.job_ports.proofs.Joining.{none_begun}
 
 -- ---- the journal once the port was hung up
 
@@ -175,7 +172,7 @@ hung_up_played first session v putter line run d left end scene ends journal pla
     let has = before.has in
     let ms = all_passed session d.log p left.journal.items in
     let here = (before.each.each (scene_on p has.session) has.like has.agrees).0 in
-    let none = nothing_begun session d.log p left.journal.items (λ c.
+    let none = none_begun session p (events_on p d.log) left.journal.items (λ c.
     idle_then v left.journal.items c ends.port journal (ap (λ (q : CallerState). has_begun q) (here.callers c))) in
     let same : (c : ℕ) → by_caller c ms ≡ passed_by session p d c =
     λ c.

@@ -14,9 +14,9 @@ use Rattle.tty_terminal.specs.declared.callers.CallerState.{CallerState}
 use Rattle.tty_terminal.specs.Terminals.{Terminal, opening, caller_at, has_begun}
 use Rattle.tty_terminal.specs.Runs.{IsRun}
 use Rattle.port_core.specs.Ports.{PortValue, IsPort, call_in}
-use Rattle.one_thread.specs.Phases.{IsUpTo, IsBeforePhase}
-use Rattle.one_thread.specs.Roles.{Scene, scene_of, names_in}
-use Rattle.one_thread.specs.declared.phases.Station.{Station}
+use Rattle.play_base.specs.Phases.{IsUpTo, IsBeforePhase}
+use Rattle.play_base.specs.Roles.{Scene, scene_of, names_in}
+use Rattle.play_base.specs.declared.stations.Station.{Station}
 use Rattle.order_laws.proofs.Opening.{opened_each}
 use Rattle.job_control.specs.declared.processes.Proc.{Proc}
 use Rattle.job_control.specs.Control.{JobState, first_jobs}

@@ -6,12 +6,12 @@ use Rattle.tty_calls.specs.declared.answers.Denied.{Denied}
 use Rattle.tty_calls.specs.declared.answers.Denied.TheVariants.{NoMemory, Full}
 use Rattle.tty_calls.specs.declared.sessions.Script.{Script}
 use Rattle.tty_calls.specs.Sessions.{script_of, scripts_on, line_on, ticks_on}
-use Rattle.journal_check.specs.Legal.{phase_at}
+use Rattle.legal_runs.specs.Legal.{phase_at}
 use Rattle.port_core.specs.Ports.{PortValue, IsPort}
-use Rattle.one_thread.specs.Order.{is_of_consoles}
-use Rattle.one_thread.specs.Roles.{Scene, scene_of, names_in, role_in}
-use Rattle.one_thread.specs.Casting.{HaveSameCallers, own_scripts, scripts_at, cast_of}
-use Rattle.one_thread.specs.declared.roles.Role.{Role}
+use Rattle.one_order.specs.Order.{is_of_consoles}
+use Rattle.play_base.specs.Roles.{Scene, scene_of, names_in, role_in}
+use Rattle.play_base.specs.Casting.{HaveSameCallers, own_scripts, scripts_at, cast_of}
+use Rattle.play_base.specs.declared.roles.Role.{Role}
 use Rattle.job_control.specs.declared.processes.Proc.{Proc}
 use Rattle.job_control.specs.Control.{first_jobs}
 use Rattle.job_text.specs.Sessions.{JobCall, JobsSession, jobs_session_of}
@@ -22,9 +22,10 @@ use Rattle.job_one.specs.Between.{IsBeforeJobs}
 use Rattle.job_one.specs.Events.{DeskState}
 use Rattle.passed_laws.specs.Filled.{AreNextSteps}
 use Rattle.job_one.specs.Remaining.{AreLeft}
+use Rattle.job_one.specs.Played.{by_blocks}
 use Rattle.job_ports.specs.declared.phases.JobStation.{JobStation}
 use Rattle.passed_ports.specs.Ports.{IsSceneOf}
-use Rattle.job_ports.specs.Ports.{IsJobsFull, by_blocks}
+use Rattle.job_ports.specs.Ports.{IsJobsFull}
 
 -- at the beginning of phase k, with room for the next step of each caller
 pub record IsBetween (first : Scene) (session : JobsSession) (k run : ℕ) (at : JobStation) : Type 0 where

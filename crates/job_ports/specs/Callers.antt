@@ -5,10 +5,6 @@ use Rattle.tty_calls.specs.Sessions.{number_in}
 use Rattle.job_control.specs.declared.processes.Proc.{Proc}
 use Rattle.job_steps.specs.Steps.{proc_named}
 
--- the most processes of a port
-abbrev pub MOST_PROCS : ℕ
-MOST_PROCS = 1024
-
 -- the process of a caller of this name, by its place; who is none stands past the last
 abbrev pub caller_of : List Proc → Option (List ℕ) → ℕ
 caller_of procs name = unwrap_or (proc_named procs name) (length procs)

@@ -1,13 +1,13 @@
 -- What a port was passed, as its log is walked: for private functions alone.
-use Rattle.std.specs.Prelude.{ℕ, ◌+◌, List, [], ◌∷◌, ◌++◌, length, replicate, slice_index_or, slice_set}
+use Rattle.std.specs.Prelude.{ℕ, ◌+◌, List, [], ◌∷◌, ◌++◌, length, replicate}
 use Rattle.tty_calls.specs.declared.journals.PortRun.{PortRun}
 use Rattle.tty_calls.specs.Plain.{PlainEntry}
 use Rattle.tty_calls.specs.Sessions.{PlainSession, scripts_over, names_of}
 use Rattle.derived_session.specs.declared.passed.PassedDown.{PassedDown}
 use Rattle.derived_session.specs.declared.passed.Down.TheVariants as down
-use Rattle.derived_session.specs.Begun.{begun_down}
+use Rattle.derived_session.specs.Begun.{begun_down, one_more, after_all}
 use Rattle.job_text.specs.Events.{JobEvent, own, passed, passed_down, sent, JobLog, events_on}
-use Rattle.job_one.specs.Played.{journal_on}
+use Rattle.passed_laws.specs.Sessions.{journal_on}
 
 -- what was passed down so far, how many calls of each caller were answered, and the latest step that was answered
 -- without the port
@@ -18,9 +18,6 @@ pub record Walked : Type 0 where
 
 abbrev pub first_walk : (callers : ℕ) → Walked
 first_walk n = record { passed = []; answered = replicate n 0; latest = 0 }
-
-abbrev pub one_more : List ℕ → (c : ℕ) → List ℕ
-one_more answered c = slice_set answered c (slice_index_or answered c 0 + 1)
 
 -- behind one event more, and behind all of these
 abbrev pub walked_by : Walked → JobEvent → Walked
@@ -39,8 +36,7 @@ walked_by w (passed_down c h) = record {
 walked_by w (sent signal target) = w
 
 abbrev pub walked_over : Walked → List JobEvent → Walked
-walked_over w [] = w
-walked_over w (e ∷ es) = walked_over (walked_by w e) es
+walked_over w es = after_all walked_by w es
 
 -- what a port of so many callers was passed: what was logged of it, and the calls that it has begun
 abbrev pub all_down : (callers : ℕ) → List JobEvent → List PlainEntry → List PassedDown

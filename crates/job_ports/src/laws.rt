@@ -7,19 +7,20 @@ ghost use Rattle.uart_line.specs.LineState.{LineState};
 ghost use Rattle.tty_calls.specs.declared.answers.PortEnd.{PortEnd};
 ghost use Rattle.tty_calls.specs.declared.journals.PortRun.{PortRun};
 ghost use Rattle.port_core.specs.Ports.{PortValue};
-ghost use Rattle.one_thread.specs.Roles.{Scene};
-ghost use Rattle.one_thread.specs.Phases.{HaveSeenAll, IsAtEnd, IsPortOf, IsFullRun};
-ghost use Rattle.one_thread.specs.Leaving.{EndsJournal};
-ghost use Rattle.one_thread.specs.Played.{IsPlayedOn, IsRunInOrder};
-ghost use Rattle.one_thread.specs.Stages.{IsOfScene};
+ghost use Rattle.play_base.specs.Roles.{Scene};
+ghost use Rattle.play_base.specs.Phases.{HaveSeenAll, IsAtEnd, IsPortOf, IsFullRun};
+ghost use Rattle.play_base.specs.Leaving.{EndsJournal};
+ghost use Rattle.play_base.specs.Played.{IsPlayedOn, IsRunInOrder};
+ghost use Rattle.play_base.specs.Scenes.{IsOfScene};
 ghost use Rattle.job_text.specs.Events.{JobLog};
 ghost use Rattle.job_text.specs.Sessions.{JobsSession};
 ghost use Rattle.job_text.specs.Within.{IsJobsSessionWithin};
 ghost use Rattle.job_one.specs.Events.{DeskState};
-ghost use Rattle.job_one.specs.Played.{derived_with, journal_on, AreJobsPlayed};
+ghost use Rattle.job_one.specs.Played.{derived_with, AreJobsPlayed, all_passed, by_blocks};
 ghost use Rattle.passed_calls.specs.Within.{ArePassedWithin};
 ghost use Rattle.passed_ports.specs.Ports.{IsSceneOf};
-ghost use Rattle.job_ports.specs.Ports.{all_passed, IsJobsEnd, IsJobsFull, IsPortPlayed, AreFirstPlayed, by_blocks};
+ghost use Rattle.job_ports.specs.Ports.{IsJobsEnd, IsJobsFull, IsPortPlayed, AreFirstPlayed};
+ghost use Rattle.passed_laws.specs.Sessions.{journal_on};
 
 /// A port whose phases were played is hung up, and then it was played: its log is whole.
 pub fn a_port_hung_up_was_played()

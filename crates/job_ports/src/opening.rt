@@ -1,10 +1,11 @@
 //! The desk of a port at its opening: its processes, and which of them its callers are.
 
 ghost use Rattle.std.specs.Prelude.{◌≡◌, ◌++◌, ◌≤◌, ◌==◌, [], ◌∷◌, IfOk, OnOk, if◌then◌else◌, length};
+ghost use Rattle.tty_base.specs.Sizes.{MOST_PROCESSES};
 ghost use Rattle.tty_calls.specs.Sessions.{number_in};
 ghost use Rattle.job_text.specs.Sessions.{procs_on};
 ghost use Rattle.job_ports.specs.Between.{IsDeskOpened};
-ghost use Rattle.job_ports.specs.Callers.{AreCallers, MOST_PROCS, StandOnce, with_proc};
+ghost use Rattle.job_ports.specs.Callers.{AreCallers, StandOnce, with_proc};
 
 use job_control::{Jobs, Proc};
 use job_one::Desk;
@@ -20,7 +21,7 @@ pub(crate) fn open_desk(
     number: u8,
     names: &Names,
 ) -> Result<Desk, NoMemory>
-    requires few { length (procs_on number session.now.procs.items) ≤ MOST_PROCS }
+    requires few { length (procs_on number session.now.procs.items) ≤ MOST_PROCESSES }
     requires once { StandOnce names.now }
     ensures opened { IfOk result
         (λ desk. IsDeskOpened number (procs_on number session.now.procs.items) desk.callers desk) }
@@ -58,7 +59,7 @@ fn add_proc(found: &mut Vec<Proc>, proc: &PortProc, port: u8) -> Result<(), NoMe
 
 /// The process of each caller, by its place; of several of one name the first.
 fn callers_of(alloc: Global, procs: &[Proc], names: &Names) -> Result<Vec<u16>, NoMemory>
-    requires few { length procs.now ≤ MOST_PROCS }
+    requires few { length procs.now ≤ MOST_PROCESSES }
     requires once { StandOnce names.now }
     ensures { IfOk result (λ callers. AreCallers procs.now names.now (length names.now) callers.items) }
 {

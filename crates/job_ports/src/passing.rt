@@ -7,9 +7,10 @@ ghost use Rattle.passed_calls.specs.Within.{ArePassedWithin};
 ghost use Rattle.job_text.specs.Events.{event_of, events_on, logged_of};
 ghost use Rattle.job_text.specs.Sessions.{jobs_session_of, own_of};
 ghost use Rattle.job_text.specs.Within.{IsJobsSessionWithin};
-ghost use Rattle.job_one.specs.Played.{derived_with, journal_on};
-ghost use Rattle.job_ports.specs.Walked.{all_down, down_on, first_walk, one_more, walked_by, walked_over};
-ghost use Rattle.job_ports.specs.Ports.{all_passed};
+ghost use Rattle.job_one.specs.Played.{derived_with, all_passed};
+ghost use Rattle.job_ports.specs.Walked.{all_down, down_on, first_walk, walked_by, walked_over};
+ghost use Rattle.passed_laws.specs.Sessions.{journal_on};
+ghost use Rattle.derived_session.specs.Begun.{one_more};
 
 use derived_session::{Down, PassedDown, add_begun, derive};
 use job_text::{JobEvent, JobLog, JobsPart, JobsSession, OwnCall};

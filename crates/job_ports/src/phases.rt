@@ -1,16 +1,13 @@
 //! The phases of a session of processes on a port.
 
-ghost use Rattle.std.specs.Prelude.{◌≡◌, ◌+◌, ◌<◌, ◌≤◌, List, [], IfOk, IfErr};
-ghost use Rattle.std.specs.Prelude.{length, map, slice_index_or, slice_set, sum};
+ghost use Rattle.std.specs.Prelude.{◌≡◌, ◌+◌, ◌<◌, [], IfOk, IfErr};
+ghost use Rattle.std.specs.Prelude.{length, map, slice_index_or};
 ghost use Rattle.tty_calls.specs.declared.answers.Denied.TheVariants as denied;
 ghost use Rattle.tty_calls.specs.declared.sessions.Script.{Script};
-ghost use Rattle.tty_calls.specs.Sessions.{script_of, session_of};
-ghost use Rattle.tty_terminal.specs.Terminals.{caller_at};
-ghost use Rattle.one_thread.specs.Casting.{AreNumbered, HaveSameCallers, cast_of};
-ghost use Rattle.one_thread.specs.Roles.{role_in, scene_of};
+ghost use Rattle.tty_calls.specs.Sessions.{session_of};
+ghost use Rattle.play_base.specs.Roles.{scene_of};
 ghost use Rattle.job_text.specs.Sessions.{jobs_session_of, own_of};
 ghost use Rattle.job_text.specs.Within.{IsJobsSessionWithin};
-ghost use Rattle.passed_laws.specs.Filled.{AreNextSteps};
 ghost use Rattle.calls_left.specs.Remaining.{calls_of_port};
 ghost use Rattle.job_ports.specs.Between.{BeginsPhase, IsBetween, IsStoppedBy, Setting, setting_of};
 
@@ -18,9 +15,10 @@ use calls_left::Remaining;
 use job_one::{Desk, play_after_line, play_line};
 use job_text::{JobsPart, JobsSession, OwnCall};
 use line_steps::LineSteps;
-use one_thread::{Role, Stand, Station, scripts_of, steps_of, ticks_of};
+use one_thread::Stand;
 use passed_calls::PlacedCall;
 use passed_ports::{cast_in, take_steps};
+use play_base::{Role, Station, scripts_of, steps_of, ticks_of};
 use std::alloc::Global;
 use tty_base::NoMemory;
 use tty_calls::{Denied, Names, Script};
@@ -111,7 +109,7 @@ fn play_parts(
         steps,
         run,
     );
-    let _journal = at.station.port.journal();
+    at.station.port.known();
     let run = played?;
     let stand = Stand {
         run,
@@ -128,7 +126,7 @@ fn play_parts(
         stand,
         clock_first,
     );
-    let _end = at.station.port.journal();
+    let _end = at.station.port.journal(); // known: the journal is a run
     ended
 }
 

@@ -2,19 +2,20 @@
 
 ghost use Rattle.std.specs.Prelude.{◌≡◌, ◌<◌, ℕ, IfOk, IfErr, length, map};
 ghost use Rattle.tty_calls.specs.Sessions.{session_of};
-ghost use Rattle.one_thread.specs.Roles.{Scene, scene_of};
+ghost use Rattle.play_base.specs.Roles.{Scene, scene_of};
 ghost use Rattle.job_text.specs.Events.{logged_of};
 ghost use Rattle.job_text.specs.Sessions.{JobsSession as PlainJobsSession, jobs_session_of};
 ghost use Rattle.job_text.specs.Within.{IsJobsSessionWithin};
 ghost use Rattle.job_one.specs.Events.{AreOn};
+ghost use Rattle.job_one.specs.Played.{by_blocks};
 ghost use Rattle.job_ports.specs.Between.{IsBetween, IsStoppedBy};
 ghost use Rattle.passed_ports.specs.Ports.{IsSceneOf};
-ghost use Rattle.job_ports.specs.Ports.{IsJobsEnd, IsJobsFull, IsPortPlayed, by_blocks};
+ghost use Rattle.job_ports.specs.Ports.{IsJobsEnd, IsJobsFull, IsPortPlayed};
 
 use crate::opening::open_desk;
 use crate::phases::{JobStation, play_phase};
 use job_text::{JobLog, JobsSession};
-use one_thread::{hang_up, open_port, stop};
+use play_base::{hang_up, open_port, stop};
 use std::alloc::Global;
 use tty_base::NoMemory;
 use tty_calls::{Denied, Names, PortEnd, PortRun};
@@ -37,7 +38,7 @@ fn open(alloc: Global, session: &JobsSession, number: u8) -> Result<JobStation, 
     let names = Names::on_port(alloc, &session.session, port)?;
     let desk = open_desk(alloc, session, number, &names)?;
     let station = open_port(alloc, &session.session, port, &names)?;
-    let _journal = station.port.journal();
+    station.port.known();
     Ok(JobStation {
         names,
         station,

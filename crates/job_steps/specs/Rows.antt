@@ -12,7 +12,7 @@ use Rattle.tty_calls.specs.Plain.{flushed, line_ended, clock_ended, caller_ended
 use Rattle.tty_calls.specs.Sessions.{PlainPhase, PlainSession, call_at, counts_on}
 use Rattle.tty_terminal.specs.Terminals.{opening}
 use Rattle.tty_terminal.specs.Rows.{whole, answers, normal}
-use Rattle.journal_check.specs.Legal.{flip_on}
+use Rattle.legal_runs.specs.Legal.{flip_on}
 use Rattle.job_control.specs.declared.processes.Proc.{Proc}
 use Rattle.job_control.specs.declared.processes.JobSignal.TheVariants.{Int, Ttin, Hup}
 use Rattle.passed_calls.specs.declared.logs.Logged.{Logged}

@@ -148,12 +148,12 @@ sent_by_stop jobs p other = []
 -- ---- the calls of job control
 
 -- what a call of job control comes to: its answer, what it makes of job control, and what is due then
-pub record Outcome : Type 0 where
+pub record ControlOutcome : Type 0 where
   pub answer : JobAnswer
   pub left : JobState
   pub due : List JobEvent
 
-abbrev pub leaves : JobAnswer → JobState → Outcome
+abbrev pub leaves : JobAnswer → JobState → ControlOutcome
 leaves answer jobs = record { answer = answer; left = jobs; due = [] }
 
 abbrev pub refusal_answer : JobRefusal → JobAnswer
@@ -191,25 +191,25 @@ exit_due jobs t p c =
     else []
 
 -- the background check of spgrp, after its ENOTTY and before its EPERM
-abbrev pub spgrp_judged : JobState → (p group : ℕ) → Judged → Outcome
+abbrev pub spgrp_judged : JobState → (p group : ℕ) → Judged → ControlOutcome
 spgrp_judged jobs p group Pass = leaves (done_or (spgrp_refusal jobs p group)) (after_spgrp jobs p group)
 spgrp_judged jobs p group Eio = leaves (told.Refused ENOTTY) jobs
 spgrp_judged jobs p group (Stop signal) =
     record { answer = told.Stopped signal; left = jobs; due = sent_by_stop jobs p (Stop signal) }
 
-abbrev pub spgrp_outcome : JobState → Terminal → (p group : ℕ) → Outcome
+abbrev pub spgrp_outcome : JobState → Terminal → (p group : ℕ) → ControlOutcome
 spgrp_outcome jobs t p group =
     if controls jobs p
     then spgrp_judged jobs p group (judged jobs p Change (has_flag t.modes TOSTOP))
     else leaves (told.Refused ENOTTY) jobs
 
 -- EBADF without a handle; through a dead one EIO, and of spgrp ENOTTY
-abbrev pub through : JobState → Option HandleState → (dead : JobAnswer) → Outcome → Outcome
+abbrev pub through : JobState → Option HandleState → (dead : JobAnswer) → ControlOutcome → ControlOutcome
 through jobs None dead outcome = leaves (told.Refused EBADF) jobs
 through jobs (Some handle) dead outcome = if handle.live then outcome else leaves dead jobs
 
 -- the port is asked nothing in these; a call for the port comes to what the background check says
-abbrev pub outcome_of : JobState → Terminal → (p c : ℕ) → JobCall → Outcome
+abbrev pub outcome_of : JobState → Terminal → (p c : ℕ) → JobCall → ControlOutcome
 outcome_of jobs t p c (plain call) = record {
   answer = unwrap_or (judged_answer (judged_call jobs t p call)) told.Done;
   left = jobs;
@@ -255,10 +255,10 @@ abbrev pub first_place : Journal → (c step : ℕ) → ℕ
 first_place journal c step = unwrap_or (position (is_of_step c step) journal.entries) (length journal.entries)
 
 -- the call went on to the port: by the background check as the call began
-abbrev pub GoesOn : Port → JobsState → (place c : ℕ) → Option JobCall → Type 0
-GoesOn port s place c (Some (plain call)) =
+abbrev pub WentToPort : Port → JobsState → (place c : ℕ) → Option JobCall → Type 0
+WentToPort port s place c (Some (plain call)) =
     judged_call (jobs_before port s place) (terminal_at port.journal place) (proc_of port c) call ≡ Pass
-GoesOn port s place c other = ⊥
+WentToPort port s place c other = ⊥
 
 -- an entry of a call by its step in the journal is of this call
 abbrev pub IsOfCall : Port → (c step : ℕ) → Option JobCall → Type 0
@@ -273,7 +273,7 @@ pub record IsPassed (port : Port) (s : JobsState) (at c step : ℕ) (answer : Pl
   pub entry : IsAnswerAt port.journal c at answer
   pub at_once : s.now.at < at
   pub of_call : IsOfCall port c entry.entry.step (next_call port s c)
-  pub goes_on : GoesOn port s (first_place port.journal c entry.entry.step) c (next_call port s c)
+  pub goes_on : WentToPort port s (first_place port.journal c entry.entry.step) c (next_call port s c)
 
 -- the hangup of a process that ended, which is the first that is due: the port's next entry answers it
 pub record IsPassedDown (port : Port) (s : JobsState) (at c h : ℕ) : Type 0 where

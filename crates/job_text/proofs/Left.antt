@@ -10,6 +10,7 @@ use Rattle.std.proofs.lemmas.List.{get_or_past, length-map}
 use Rattle.std.proofs.lemmas.List.Elements.{All-nil, All-cons, All-head, All-tail, All-append}
 use Rattle.std.proofs.lemmas.List.FromFn.{get_or-map-range_with_len, length-map-range_with_len}
 use Rattle.std.proofs.lemmas.List.Sums.{length-filter}
+use Rattle.tty_base.specs.Sizes.{MOST_PROCESSES, MOST_STEPS}
 use Rattle.tty_calls.specs.Limits.{IsWithinLimits, IsPhaseWithin, call_count}
 use Rattle.tty_calls.specs.Sessions.{PlainScript, PlainPhase, PlainSession}
 use Rattle.session_text.specs.Drafts.{all_phases}
@@ -45,8 +46,8 @@ record Ends (r : JobsReading) (lines : List (List (List ℕ))) (s : JobsSession)
   left : Later is_own r.base.session lines base
   is : s ≡ session_with base procs parts
   calls : Outside r → calls_beside parts ≡ own_calls r ++ flat_map calls_said lines
-  few : Holds r → call_count base.phases + own_count parts ≤ 65536
-  few_procs : Holds r → (p : ℕ) → count_by (on_port p) procs ≤ 1024
+  few : Holds r → call_count base.phases + own_count parts ≤ MOST_STEPS
+  few_procs : Holds r → (p : ℕ) → count_by (on_port p) procs ≤ MOST_PROCESSES
   callers : Holds r → AllByRecursion (λ (phase : PlainPhase). AreProcs procs (keys_in phase)) base.phases
 
 ends : (lines : List (List (List ℕ))) (r : JobsReading) (n : ℕ) (s : JobsSession)
@@ -112,8 +113,8 @@ procs_at : (ports : ℕ) (procs : List PortProc) (p : ℕ)
 procs_at ports procs p h = get_or-map-range_with_len (λ q. procs_on q procs) 0 ports p p [] h (omega arith)
 
 few_at : (ports : ℕ) (procs : List PortProc) (p : ℕ)
-    → count_by (on_port p) procs ≤ 1024
-    → length (slice_index_or (map (λ q. procs_on q procs) (range_with_len 0 ports)) p []) ≤ 1024
+    → count_by (on_port p) procs ≤ MOST_PROCESSES
+    → length (slice_index_or (map (λ q. procs_on q procs) (range_with_len 0 ports)) p []) ≤ MOST_PROCESSES
 few_at ports procs p few =
     elim (cases_lt p ports) [
       | inl within ↦ omega (
@@ -198,8 +199,8 @@ callers_found ports procs parts n (phase ∷ phases) h k =
 
 with_limits : (base : PlainSession) (procs : List PortProc) (parts : List (List (PlacedCall OwnCall)))
     → IsWithinLimits base
-    → call_count base.phases + own_count parts ≤ 65536
-    → ((p : ℕ) → count_by (on_port p) procs ≤ 1024)
+    → call_count base.phases + own_count parts ≤ MOST_STEPS
+    → ((p : ℕ) → count_by (on_port p) procs ≤ MOST_PROCESSES)
     → AllByRecursion (λ (phase : PlainPhase). AreProcs procs (keys_in phase)) base.phases
     → IsJobsSessionWithin (session_with base procs parts)
 with_limits base procs parts h few few_procs callers = record {

@@ -1,3 +1,4 @@
-pub mod Bare
+pub mod Listed
+pub mod Tables
 pub mod Left
 pub mod Steps

@@ -9,6 +9,7 @@ use Rattle.std.proofs.lemmas.Bool.{both_ways, cases_Bool, eqb-true, leb-false}
 use Rattle.std.proofs.lemmas.List.{append_assoc, flat_map_more, map_push}
 use Rattle.std.proofs.lemmas.List.Elements.{filter-append}
 use Rattle.std.proofs.lemmas.List.Sums.{sum_by_push}
+use Rattle.tty_base.specs.Sizes.{MOST_PROCESSES, MOST_STEPS}
 use Rattle.tty_calls.specs.Sessions.{PlainPhase, PlainSession}
 use Rattle.text_lines.specs.Lines.{first_is}
 use Rattle.text_lines.specs.Values.{word_at, number_at}
@@ -37,8 +38,8 @@ use Rattle.job_text.specs.declared.verbs.JobVerb.TheVariants as job
 use Rattle.job_text.specs.declared.calls.OwnCall.{OwnCall}
 use Rattle.job_text.specs.declared.calls.OwnCall.TheVariants as call
 use Rattle.job_text.specs.declared.sessions.PortProc.{PortProc}
-use Rattle.job_text.specs.declared.reader.Block.{Block}
-use Rattle.job_text.specs.declared.reader.Block.TheVariants as block
+use Rattle.job_text.specs.declared.blocks.Block.{Block}
+use Rattle.job_text.specs.declared.blocks.Block.TheVariants as block
 use Rattle.job_text.specs.Calls.{call_of}
 use Rattle.job_text.specs.Left.{is_own, call_by, calls_by, calls_said, calls_beside}
 use Rattle.job_text.specs.Procs.{words_in, proc_of}
@@ -68,8 +69,8 @@ abbrev pub own_count : List (List (PlacedCall OwnCall)) → ℕ
 own_count parts = sum_by (λ (own : List (PlacedCall OwnCall)). length own) parts
 
 pub record Holds (r : JobsReading) : Type 0 where
-  pub few : draft_calls r.base.session.draft + (own_count r.parts + (length r.own + r.base.steps_left)) ≤ 65536
-  pub procs : (p : ℕ) → count_by (on_port p) r.procs ≤ 1024
+  pub few : draft_calls r.base.session.draft + (own_count r.parts + (length r.own + r.base.steps_left)) ≤ MOST_STEPS
+  pub procs : (p : ℕ) → count_by (on_port p) r.procs ≤ MOST_PROCESSES
   pub callers : EachPhase (AreProcs r.procs) r.base.session.draft
 
 -- the calls beside, in order
@@ -577,10 +578,10 @@ callers_more procs q phases flips (Some phase) h =
 
 few_more : (t : Bool) (port p n m : ℕ)
     → (t ≡ true → port ≡ p)
-    → (port ≡ p → n < 1024)
-    → n ≤ 1024
+    → (port ≡ p → n < MOST_PROCESSES)
+    → n ≤ MOST_PROCESSES
     → m ≡ n + cond t 1 0
-    → m ≤ 1024
+    → m ≤ MOST_PROCESSES
 few_more true port p n m is few all e = omega (arith, few (is refl), e)
 few_more false port p n m is few all e = omega (arith, all, e)
 
@@ -592,7 +593,7 @@ record AddsProc (r next : JobsReading) : Type 0 where
   own : next.own ≡ r.own
   parts : next.parts ≡ r.parts
   opened : next.open_block ≡ block.Another
-  few : count_by (on_port q.port) r.procs < 1024
+  few : count_by (on_port q.port) r.procs < MOST_PROCESSES
 
 holds_proc : (r next : JobsReading) → AddsProc r next → Holds r → Holds next
 holds_proc r next adds h =
@@ -605,7 +606,7 @@ holds_proc r next adds h =
       procs = λ p.
           few_more (adds.q.port == p) adds.q.port p (count_by (on_port p) r.procs) (count_by (on_port p) next.procs)
           (eqb-true adds.q.port p)
-          (λ e. subst (λ (n : ℕ). count_by (on_port n) r.procs < 1024) e adds.few) (h.procs p)
+          (λ e. subst (λ (n : ℕ). count_by (on_port n) r.procs < MOST_PROCESSES) e adds.few) (h.procs p)
           (ap (count_by (on_port p)) adds.procs
           ∙ sum_by_push (λ (q : PortProc). cond (on_port p q) 1 0) r.procs adds.q);
       callers =
@@ -623,9 +624,9 @@ adds_proc r next n arguments e =
     (not_wrong_unless n reason.Order (is_before_phases r) _ next e).1 in
     let q = went.x in
     let once = not_wrong n reason.Order (has_stood r.procs q) _ next went.goes_on in
-    let few = not_wrong n reason.Limit (nat_le 1024 (count_by (on_port q.port) r.procs)) _ next once.1 in
+    let few = not_wrong n reason.Limit (nat_le MOST_PROCESSES (count_by (on_port q.port) r.procs)) _ next once.1 in
     let made = ok_is _ next few.1 in
-    let some = leb-false 1024 (count_by (on_port q.port) r.procs) few.0 in
+    let some = leb-false MOST_PROCESSES (count_by (on_port q.port) r.procs) few.0 in
     record {
       q = q;
       session = sym (ap (λ (s : JobsReading). s.base.session) made);

@@ -1,5 +1,6 @@
 -- The calls of job control: how many arguments each has, and then each argument from the left.
 use Rattle.std.specs.Prelude.{ℕ, ◌==◌, List, length, Ok, Err, if◌then◌else◌}
+use Rattle.tty_base.specs.Sizes.{LAST_GROUP}
 use Rattle.text_lines.specs.Values.{word_at}
 use Rattle.session_text.specs.declared.faults.Reason.TheVariants.{Word}
 use Rattle.further_text.specs.Faults.{Read, ◌>>=◌}
@@ -18,7 +19,7 @@ count_of other = 0
 
 -- the number of a session or group
 abbrev pub group_in : List ℕ → Read ℕ
-group_in word = ranged 1 65535 word
+group_in word = ranged 1 LAST_GROUP word
 
 abbrev pub read_call : JobVerb → (first second : List ℕ) → Read OwnCall
 read_call Sctty a b = handle_in a >>= λ h. Ok (call.Sctty h)

@@ -2,6 +2,7 @@ pub mod Verbs
 pub mod Calls
 pub mod Procs
 pub mod Reading
+pub mod Tables
 pub mod Rows
 pub mod Sessions
 pub mod Events

@@ -3,6 +3,7 @@ use Rattle.std.specs.Prelude.{ℕ, ◌==◌, nat_lt, Bool, true, false, ◌&&◌
 use Rattle.std.specs.Prelude.{codes, filter, Option, None, Some, Ok, Err, if◌then◌else◌}
 use Rattle.std.specs.Str.{bytes_eq}
 use Rattle.std.specs.List.{position_from}
+use Rattle.tty_base.specs.Sizes.{MOST_PROCESSES}
 use Rattle.text_lines.specs.Values.{is_name}
 use Rattle.session_text.specs.declared.faults.Reason.TheVariants.{Word}
 use Rattle.further_text.specs.Faults.{Read, ◌>>=◌}
@@ -71,7 +72,7 @@ place_named procs port name =
 -- one of the 1,024 that a port may have
 abbrev pub found : Option ℕ → Read (Option ℕ)
 found None = Err Word
-found (Some place) = if nat_lt place 1024 then Ok (Some place) else Err Word
+found (Some place) = if nat_lt place MOST_PROCESSES then Ok (Some place) else Err Word
 
 -- `-`, or the name of an earlier process of the port
 abbrev pub parent_in : List PortProc → (port : ℕ) → List ℕ → Read (Option ℕ)

@@ -4,6 +4,7 @@ use Rattle.std.specs.Prelude.{ℕ, ◌-◌, ◌==◌, ◌&&◌, ◌||◌, nat_le
 use Rattle.std.specs.Prelude.{length, count_by, Option, None, Some, is_some, is_none, Result, Ok, if◌then◌else◌}
 use Rattle.std.specs.List.{list_any}
 use Rattle.std.specs.Option.{option_map_or}
+use Rattle.tty_base.specs.Sizes.{MOST_PROCESSES}
 use Rattle.text_lines.specs.Lines.{first_is}
 use Rattle.text_lines.specs.Values.{word_at, number_at, is_name, read_of}
 use Rattle.session_text.specs.declared.faults.Reason.TheVariants.{Order, Limit}
@@ -21,9 +22,9 @@ use Rattle.job_text.specs.declared.calls.OwnCall.{OwnCall}
 use Rattle.job_text.specs.declared.calls.OwnCall.TheVariants as call
 use Rattle.job_text.specs.declared.sessions.PortProc.{PortProc}
 use Rattle.passed_calls.specs.declared.placed.PlacedCall.{PlacedCall}
-use Rattle.job_text.specs.declared.reader.Process.{Process}
-use Rattle.job_text.specs.declared.reader.Block.{Block}
-use Rattle.job_text.specs.declared.reader.Block.TheVariants as block
+use Rattle.job_text.specs.declared.blocks.Process.{Process}
+use Rattle.job_text.specs.declared.blocks.Block.{Block}
+use Rattle.job_text.specs.declared.blocks.Block.TheVariants as block
 use Rattle.job_text.specs.Sessions.{JobsSession, session_with}
 use Rattle.job_text.specs.Calls.{call_of}
 use Rattle.job_text.specs.Procs.{words_in, proc_of, place_named, leads_with}
@@ -144,7 +145,7 @@ has_stood procs q =
 abbrev pub with_proc : JobsReading → ℕ → PortProc → Result JobsReading BadLine
 with_proc r n q =
     wrong_if n Order (has_stood r.procs q)
-    (wrong_if n Limit (nat_le 1024 (count_by (λ other. other.port == q.port) r.procs))
+    (wrong_if n Limit (nat_le MOST_PROCESSES (count_by (λ other. other.port == q.port) r.procs))
     (Ok (record r { open_block = block.Another; procs = r.procs ++ q ∷ [] })))
 
 abbrev pub after_proc : JobsReading → ℕ → List (List ℕ) → Result JobsReading BadLine

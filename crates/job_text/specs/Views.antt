@@ -5,7 +5,7 @@ use Rattle.further_text.specs.Views.{base_of}
 use Rattle.job_text.specs.declared.procs.ProcWords.{ProcWords as PartedLine}
 use Rattle.job_text.specs.declared.reader.JobsReader.{JobsReader}
 use Rattle.job_text.specs.Procs.{ProcWords}
-use Rattle.job_text.specs.Sessions.{own_of, bare}
+use Rattle.job_text.specs.Sessions.{own_of}
 use Rattle.job_text.specs.Reading.{JobsReading}
 
 abbrev pub proc_words_of : PartedLine → ProcWords
@@ -21,9 +21,9 @@ proc_words_of w = record {
 abbrev pub jobs_reading_of : JobsReader → JobsReading
 jobs_reading_of r = record {
   base = base_of r.base;
-  open_block = r.block;
-  procs = map bare r.procs.items;
-  exited = r.exited.items;
+  open_block = r.block.block;
+  procs = r.procs;
+  exited = r.block.exited;
   scripts = r.callers.items;
   own = r.own.items;
   parts = map own_of r.parts.items;

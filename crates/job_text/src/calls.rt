@@ -7,6 +7,7 @@ use crate::verbs::JobVerb;
 use further_text::{handle_in, has_count, ranged};
 use session_text::Reason;
 use text_lines::FirstTwo;
+use tty_base::sizes::LAST_GROUP;
 
 /// A call of job control (ioctl_tty(2), termios(3), exit(2)).
 #[derive(Clone, Copy)]
@@ -71,5 +72,5 @@ fn read_call(verb: JobVerb, first: &[u8], second: &[u8]) -> Result<OwnCall, Reas
 pub(crate) fn group_in(word: &[u8]) -> Result<u16, Reason>
     ensures { result ≡ group_in word.now }
 {
-    Ok(ranged(1, 65_535, word)? as u16)
+    Ok(ranged(1, LAST_GROUP as u64, word)? as u16)
 }

@@ -4,12 +4,16 @@
 //! a session's.
 #![tactic(auto)]
 
+mod blocks;
 mod calls;
 mod laws;
+mod leaders;
 mod logs;
+mod ports;
 mod procs;
 mod reader;
 mod sessions;
+mod table;
 mod verbs;
 
 pub use calls::OwnCall;
@@ -18,5 +22,6 @@ pub use laws::{
     worked_texts_are_refused_at_their_lines,
 };
 pub use logs::{JobEvent, JobLog};
+pub use ports::{own_in, procs_on};
 pub use reader::parse_jobs;
 pub use sessions::{JobsPart, JobsSession, PortProc};

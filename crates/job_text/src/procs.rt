@@ -1,21 +1,23 @@
 //! What the line of a process says.
 
-ghost use Rattle.std.specs.Prelude.{◌≡◌, ◌==◌, count_by, map};
-ghost use Rattle.std.specs.List.{list_any};
+ghost use Rattle.std.specs.Prelude.{◌≡◌, IfOk, IsTrue};
 ghost use Rattle.text_lines.specs.Lines.{words_of};
+ghost use Rattle.text_lines.specs.Values.{is_name};
 ghost use Rattle.further_text.specs.Faults.{Reads};
 ghost use Rattle.job_text.specs.Procs.{after_flag, few_flags, flags_in, found, has_flag, name_in, parent_in};
-ghost use Rattle.job_text.specs.Procs.{parted, place_named, proc_of, rest_of, words_in, leads_with};
+ghost use Rattle.job_text.specs.Procs.{parted, proc_of, rest_of, words_in};
 ghost use Rattle.job_text.specs.Sessions.{bare};
 ghost use Rattle.job_text.specs.Views.{proc_words_of};
 
 use crate::calls::group_in;
 use crate::sessions::PortProc;
+use crate::table::ProcTable;
 use arrayvec::ArrayString;
 use further_text::port_in;
 use job_control::Proc;
 use session_text::Reason;
 use text_lines::{is_name, name_of, split_word};
+use tty_base::sizes::MOST_PROCESSES;
 use tty_modes::is_same;
 
 /// The words of a process's line.
@@ -84,8 +86,9 @@ fn past_word(line: &[u8]) -> &[u8]
 }
 
 /// The process that a line says, in a session with so many ports and these processes before it.
-pub(crate) fn proc_of(ports: u8, procs: &[PortProc], words: &ProcWords) -> Result<PortProc, Reason>
-    ensures { Reads bare result (proc_of ports (map bare procs.now) (proc_words_of words.now)) }
+pub(crate) fn proc_of(ports: u8, procs: &ProcTable, words: &ProcWords) -> Result<PortProc, Reason>
+    ensures proc { Reads bare result (proc_of ports procs.now (proc_words_of words.now)) }
+    ensures name { IfOk result (λ q. IsTrue (is_name q.proc.name.bytes)) }
 {
     let name = name_in(words.name)?;
     let port = port_in(ports, words.port)?;
@@ -106,7 +109,8 @@ pub(crate) fn proc_of(ports: u8, procs: &[PortProc], words: &ProcWords) -> Resul
 }
 
 fn name_in(word: &[u8]) -> Result<ArrayString<16>, Reason>
-    ensures { Reads (λ name. name.bytes) result (name_in word.now) }
+    ensures word { Reads (λ name. name.bytes) result (name_in word.now) }
+    ensures name { IfOk result (λ name. IsTrue (is_name name.bytes)) }
 {
     if is_name(word) {
         Ok(name_of(word))
@@ -115,29 +119,13 @@ fn name_in(word: &[u8]) -> Result<ArrayString<16>, Reason>
     }
 }
 
-/// The place of a process among those of its port.
-pub(crate) fn place_named(procs: &[PortProc], port: u64, name: &[u8]) -> Option<usize>
-    ensures { result ≡ place_named (map bare procs.now) port name.now }
-{
-    place_among(procs, port, name)
-}
-
-fn place_among(procs: &[PortProc], port: u64, name: &[u8]) -> Option<usize>
-    ensures { result ≡ place_named procs.now port name.now }
-{
-    procs
-        .iter()
-        .filter(|q| u64::from(q.port) == port)
-        .position(|q| q.proc.name.as_bytes() == name)
-}
-
-fn parent_in(procs: &[PortProc], port: u8, word: &[u8]) -> Result<Option<u16>, Reason>
-    ensures { result ≡ parent_in (map bare procs.now) port word.now }
+fn parent_in(procs: &ProcTable, port: u8, word: &[u8]) -> Result<Option<u16>, Reason>
+    ensures { result ≡ parent_in procs.now port word.now }
 {
     if is_same(word, b"-".as_slice()) {
         return Ok(None);
     }
-    found(place_named(procs, u64::from(port), word))
+    found(procs.place_named(u64::from(port), word))
 }
 
 /// The place as it is kept: a port has 1,024 processes at most.
@@ -147,7 +135,7 @@ fn found(place: Option<usize>) -> Result<Option<u16>, Reason>
     match place {
         None => Err(Reason::Word),
         Some(place) => {
-            if place < 1_024 {
+            if place < MOST_PROCESSES {
                 Ok(Some(place as u16))
             } else {
                 Err(Reason::Word)
@@ -196,36 +184,4 @@ fn take_flag<'a>(line: &'a [u8], flag: &[u8]) -> (bool, &'a [u8])
             }
         }
     }
-}
-
-/// Whether a session of a port has a leader among these.
-pub(crate) fn has_leader(procs: &[PortProc], of: &PortProc) -> bool
-    ensures { result ≡ list_any (leads_with of.now) (map bare procs.now) }
-{
-    is_leader_among(procs, of)
-}
-
-fn is_leader_among(procs: &[PortProc], of: &PortProc) -> bool
-    ensures { result ≡ list_any (leads_with of.now) procs.now }
-{
-    procs.iter().any(|q| leads_with(of, q))
-}
-
-fn leads_with(of: &PortProc, q: &PortProc) -> bool
-    ensures { result ≡ leads_with of.now q.now }
-{
-    q.port == of.port && q.proc.leader && q.proc.session == of.proc.session
-}
-
-/// How many of these are of a port.
-pub(crate) fn count_on(procs: &[PortProc], port: u8) -> usize
-    ensures { result ≡ count_by (λ q. q.port == port) (map bare procs.now) }
-{
-    count_among(procs, port)
-}
-
-fn count_among(procs: &[PortProc], port: u8) -> usize
-    ensures { result ≡ count_by (λ q. q.port == port) procs.now }
-{
-    procs.iter().filter(|q| q.port == port).count()
 }

@@ -1,23 +1,25 @@
 //! Reads a text line by line.
 
-ghost use Rattle.std.specs.Prelude.{◌≡◌, false, [], ◌∷◌, ◌++◌, OnOk, map, if◌then◌else◌};
+ghost use Rattle.std.specs.Prelude.{◌≡◌, false, OnOk, IsTrue};
 ghost use Rattle.std.specs.Option.{option_map_or};
 ghost use Rattle.text_lines.specs.Lines.{words_of};
-ghost use Rattle.text_lines.specs.Values.{read_of};
-ghost use Rattle.session_text.specs.Reading.{Gives};
+ghost use Rattle.text_lines.specs.Values.{is_name, read_of};
+ghost use Rattle.session_text.specs.Reading.{GivesRead};
 ghost use Rattle.further_text.specs.Reading.{spend};
 ghost use Rattle.further_text.specs.Sorts.{sort_of};
 ghost use Rattle.job_text.specs.Sessions.{bare, bare_session_of};
 ghost use Rattle.job_text.specs.Reading.{after_call, after_item, after_line, after_opening, after_proc};
 ghost use Rattle.job_text.specs.Reading.{after_session_item, after_shared, exits, first_jobs_reading};
-ghost use Rattle.job_text.specs.Reading.{has_exited, has_stood, is_before_phases, is_nobody, is_same_process};
-ghost use Rattle.job_text.specs.Reading.{is_stray, jobs_at_end, jobs_in, place_of, with_base, with_call};
+ghost use Rattle.job_text.specs.Reading.{has_stood, is_before_phases, is_nobody, is_stray};
+ghost use Rattle.job_text.specs.Reading.{jobs_at_end, jobs_in, place_of, with_base, with_call};
 ghost use Rattle.job_text.specs.Reading.{with_caller, with_exit, with_own, with_phase_closed, with_proc};
 ghost use Rattle.job_text.specs.Views.{jobs_reading_of};
 
+use crate::blocks::{OpenBlock, Process};
 use crate::calls::{OwnCall, call_of};
-use crate::procs::{count_on, has_leader, place_named, proc_of, words_in};
+use crate::procs::{proc_of, words_in};
 use crate::sessions::{JobsPart, JobsSession, PortProc};
+use crate::table::ProcTable;
 use crate::verbs::{JobVerb, verb_of};
 use further_text::{BaseReader, Sort, bad, has_count, sort_of};
 use passed_calls::PlacedCall;
@@ -25,36 +27,15 @@ use session_text::{Reason, TextFault};
 use std::alloc::Global;
 use std::mem;
 use text_lines::{FirstTwo, is_comment, is_name, read_number, split_line, split_word};
+use tty_base::sizes::MOST_PROCESSES;
 use tty_base::{Buffer, NoMemory};
-
-/// So many processes a port has at most.
-const PROCS: usize = 1_024;
-
-/// A process, by its port and its place among those of the port.
-#[derive(Clone, Copy)]
-pub(crate) struct Process {
-    port: u64,
-    place: usize,
-}
-
-/// Which block is open.
-#[derive(Clone, Copy)]
-pub(crate) enum Block {
-    /// That of a process.
-    Caller(Process),
-    /// That of a process that has exited.
-    Exited,
-    /// Another, or none.
-    Another,
-}
 
 /// What was read of a text.
 #[derive(Drop)]
 pub(crate) struct JobsReader {
     base: BaseReader,
-    block: Block,
-    procs: Buffer<PortProc>,
-    exited: Buffer<Process>,
+    block: OpenBlock,
+    procs: ProcTable,
     /// Whose blocks the open phase has, and its calls of job control.
     callers: Buffer<Process>,
     own: Buffer<PlacedCall<OwnCall>>,
@@ -69,9 +50,8 @@ impl JobsReader {
     {
         JobsReader {
             base: BaseReader::new(alloc),
-            block: Block::Another,
-            procs: Buffer::new(alloc),
-            exited: Buffer::new(alloc),
+            block: OpenBlock::new(alloc),
+            procs: ProcTable::new(alloc),
             callers: Buffer::new(alloc),
             own: Buffer::new(alloc),
             parts: Buffer::new(alloc),
@@ -80,7 +60,7 @@ impl JobsReader {
 
     /// Reads the line with this number.
     fn read_line(&mut self, alloc: Global, number: u32, line: &[u8]) -> Result<(), TextFault>
-        ensures { Gives (λ _. jobs_reading_of self.new) result
+        ensures { GivesRead (λ _. jobs_reading_of self.new) result
             (after_line (jobs_reading_of self.old) number (words_of line.now)) }
     {
         match split_word(line) {
@@ -101,7 +81,7 @@ impl JobsReader {
         word: &[u8],
         behind: &[u8],
     ) -> Result<(), TextFault>
-        ensures { Gives (λ _. jobs_reading_of self.new) result
+        ensures { GivesRead (λ _. jobs_reading_of self.new) result
             (after_item (jobs_reading_of self.old) number word.now (words_of behind.now)) }
     {
         let arguments = FirstTwo::of(behind);
@@ -110,7 +90,7 @@ impl JobsReader {
         }
         match verb_of(word) {
             None => self.read_shared(alloc, number, word, &arguments),
-            Some(JobVerb::Proc) => self.read_proc(number, behind),
+            Some(JobVerb::Proc) => self.read_proc(alloc, number, behind),
             Some(verb) => self.read_call(number, verb, &arguments),
         }
     }
@@ -123,7 +103,7 @@ impl JobsReader {
         word: &[u8],
         arguments: &FirstTwo,
     ) -> Result<(), TextFault>
-        ensures { Gives (λ _. jobs_reading_of self.new) result
+        ensures { GivesRead (λ _. jobs_reading_of self.new) result
             (after_session_item (jobs_reading_of self.old) number word.now arguments.now) }
     {
         self.base.read_item(alloc, number, word, arguments)
@@ -137,7 +117,7 @@ impl JobsReader {
         word: &[u8],
         arguments: &FirstTwo,
     ) -> Result<(), TextFault>
-        ensures { Gives (λ _. jobs_reading_of self.new) result
+        ensures { GivesRead (λ _. jobs_reading_of self.new) result
             (after_shared (jobs_reading_of self.old) number word.now arguments.now (sort_of word.now)) }
     {
         match sort_of(word) {
@@ -147,7 +127,7 @@ impl JobsReader {
             Sort::Inside => self.read_inside(alloc, number, word, arguments),
             Sort::Other => {
                 self.read_by_session(alloc, number, word, arguments)?;
-                self.block = Block::Another;
+                self.block.close();
                 Ok(())
             }
         }
@@ -160,7 +140,7 @@ impl JobsReader {
         word: &[u8],
         arguments: &FirstTwo,
     ) -> Result<(), TextFault>
-        ensures { Gives (λ _. jobs_reading_of self.new) result
+        ensures { GivesRead (λ _. jobs_reading_of self.new) result
             (after_shared (jobs_reading_of self.old) number word.now arguments.now Sort.Caller) }
     {
         if !has_count(arguments, 2) {
@@ -184,7 +164,7 @@ impl JobsReader {
         name: &[u8],
         port: u64,
     ) -> Result<(), TextFault>
-        ensures { Gives (λ _. jobs_reading_of self.new) result
+        ensures { GivesRead (λ _. jobs_reading_of self.new) result
             (after_opening (jobs_reading_of self.old) number word.now arguments.now name.now port) }
     {
         self.read_by_session(alloc, number, word, arguments)?;
@@ -192,10 +172,10 @@ impl JobsReader {
     }
 
     fn open_named(&mut self, number: u32, name: &[u8], port: u64) -> Result<(), TextFault>
-        ensures { Gives (λ _. jobs_reading_of self.new) result
+        ensures { GivesRead (λ _. jobs_reading_of self.new) result
             (with_caller number port (place_of (jobs_reading_of self.old) port name.now) (jobs_reading_of self.old)) }
     {
-        let place = place_named(self.procs.as_slice(), port, name);
+        let place = self.procs.place_named(port, name);
         self.open_caller(number, port, place)
     }
 
@@ -212,14 +192,13 @@ impl JobsReader {
         match read_number(port) {
             None => false,
             Some(port) => {
-                port < u64::from(self.base.ports())
-                    && place_named(self.procs.as_slice(), port, name).is_none()
+                port < u64::from(self.base.ports()) && self.procs.place_named(port, name).is_none()
             }
         }
     }
 
     fn open_caller(&mut self, number: u32, port: u64, place: Option<usize>) -> Result<(), TextFault>
-        ensures { Gives (λ _. jobs_reading_of self.new) result
+        ensures { GivesRead (λ _. jobs_reading_of self.new) result
             (with_caller number port place (jobs_reading_of self.old)) }
     {
         match place {
@@ -229,7 +208,7 @@ impl JobsReader {
                 self.callers.reserve(1)?;
                 self.callers.add(process);
                 self.base.open_block();
-                self.block = block_of(self.exited.as_slice(), process);
+                self.block.open(process);
                 Ok(())
             }
         }
@@ -243,7 +222,7 @@ impl JobsReader {
         word: &[u8],
         arguments: &FirstTwo,
     ) -> Result<(), TextFault>
-        ensures { Gives (λ _. jobs_reading_of self.new) result
+        ensures { GivesRead (λ _. jobs_reading_of self.new) result
             (after_shared (jobs_reading_of self.old) number word.now arguments.now Sort.Border) }
     {
         let is_open = self.base.is_in_phase();
@@ -254,7 +233,7 @@ impl JobsReader {
     fn close_phase(&mut self, alloc: Global, is_open: bool) -> Result<(), NoMemory>
         ensures { OnOk result (jobs_reading_of self.new ≡ with_phase_closed is_open (jobs_reading_of self.old)) }
     {
-        self.block = Block::Another;
+        self.block.close();
         self.callers = Buffer::new(alloc);
         let own = mem::replace(&mut self.own, Buffer::new(alloc));
         if is_open {
@@ -272,10 +251,10 @@ impl JobsReader {
         word: &[u8],
         arguments: &FirstTwo,
     ) -> Result<(), TextFault>
-        ensures { Gives (λ _. jobs_reading_of self.new) result
+        ensures { GivesRead (λ _. jobs_reading_of self.new) result
             (after_shared (jobs_reading_of self.old) number word.now arguments.now Sort.Inside) }
     {
-        if matches!(self.block, Block::Exited) {
+        if self.block.is_exited() {
             return Err(bad(number, Reason::Order));
         }
         self.base.read_step(alloc, number, word, arguments)
@@ -283,15 +262,15 @@ impl JobsReader {
 
     /// Counts a step.
     fn spend(&mut self, number: u32) -> Result<(), TextFault>
-        ensures { Gives (λ _. jobs_reading_of self.new) result
+        ensures { GivesRead (λ _. jobs_reading_of self.new) result
             (with_base (jobs_reading_of self.old) (spend number (jobs_reading_of self.old).base)) }
     {
         self.base.spend(number)
     }
 
     /// Reads the line of a process.
-    fn read_proc(&mut self, number: u32, line: &[u8]) -> Result<(), TextFault>
-        ensures { Gives (λ _. jobs_reading_of self.new) result
+    fn read_proc(&mut self, alloc: Global, number: u32, line: &[u8]) -> Result<(), TextFault>
+        ensures { GivesRead (λ _. jobs_reading_of self.new) result
             (after_proc (jobs_reading_of self.old) number (words_of line.now)) }
     {
         if !self.is_before_phases() {
@@ -299,9 +278,9 @@ impl JobsReader {
         }
         match words_in(line) {
             Err(reason) => Err(bad(number, reason)),
-            Ok(words) => match proc_of(self.base.ports(), self.procs.as_slice(), &words) {
+            Ok(words) => match proc_of(self.base.ports(), &self.procs, &words) {
                 Err(reason) => Err(bad(number, reason)),
-                Ok(proc) => self.take_proc(number, proc),
+                Ok(proc) => self.take_proc(alloc, number, proc),
             },
         }
     }
@@ -313,27 +292,19 @@ impl JobsReader {
         !(self.base.ports() == 0) && !self.base.is_in_phase() && !self.base.is_ended()
     }
 
-    fn take_proc(&mut self, number: u32, proc: PortProc) -> Result<(), TextFault>
-        ensures { Gives (λ _. jobs_reading_of self.new) result
+    fn take_proc(&mut self, alloc: Global, number: u32, proc: PortProc) -> Result<(), TextFault>
+        requires { IsTrue (is_name proc.proc.name.bytes) }
+        ensures { GivesRead (λ _. jobs_reading_of self.new) result
             (with_proc (jobs_reading_of self.old) number (bare proc)) }
     {
-        if has_stood(self.procs.as_slice(), &proc) {
+        if has_stood(&self.procs, &proc) {
             return Err(bad(number, Reason::Order));
         }
-        if count_on(self.procs.as_slice(), proc.port) >= PROCS {
+        if self.procs.count_on(proc.port) >= MOST_PROCESSES {
             return Err(bad(number, Reason::Limit));
         }
-        self.block = Block::Another;
-        Ok(self.add_proc(proc)?)
-    }
-
-    fn add_proc(&mut self, proc: PortProc) -> Result<(), NoMemory>
-        ensures { OnOk result (jobs_reading_of self.new
-            ≡ record (jobs_reading_of self.old) { procs = (jobs_reading_of self.old).procs ++ bare proc ∷ [] }) }
-    {
-        self.procs.reserve(1)?;
-        self.procs.add(proc);
-        Ok(())
+        self.block.close();
+        Ok(self.procs.add(alloc, proc)?)
     }
 
     /// Reads a call of job control.
@@ -343,10 +314,10 @@ impl JobsReader {
         verb: JobVerb,
         arguments: &FirstTwo,
     ) -> Result<(), TextFault>
-        ensures { Gives (λ _. jobs_reading_of self.new) result
+        ensures { GivesRead (λ _. jobs_reading_of self.new) result
             (after_call (jobs_reading_of self.old) number verb arguments.now) }
     {
-        if !matches!(self.block, Block::Caller(_)) {
+        if !self.block.is_caller() {
             return Err(bad(number, Reason::Order));
         }
         match call_of(verb, arguments) {
@@ -356,7 +327,7 @@ impl JobsReader {
     }
 
     fn take_call(&mut self, number: u32, call: OwnCall) -> Result<(), TextFault>
-        ensures { Gives (λ _. jobs_reading_of self.new) result (with_call (jobs_reading_of self.old) number call) }
+        ensures { GivesRead (λ _. jobs_reading_of self.new) result (with_call (jobs_reading_of self.old) number call) }
     {
         self.add_own(call)?;
         self.exit_by(call)?;
@@ -390,29 +361,17 @@ impl JobsReader {
         ensures { OnOk result
             (jobs_reading_of self.new ≡ exits (jobs_reading_of self.old).open_block (jobs_reading_of self.old)) }
     {
-        match self.block {
-            Block::Caller(process) => {
-                self.exited.reserve(1)?;
-                self.exited.add(process);
-                self.block = Block::Exited;
-                Ok(())
-            }
-            _ => {
-                self.block = Block::Exited;
-                Ok(())
-            }
-        }
+        self.block.exit()
     }
 
     /// The session, where the text ends before the line with this number.
     fn finish(self, number: u32) -> Result<JobsSession, TextFault>
-        ensures { Gives bare_session_of result (jobs_at_end (jobs_reading_of self) number) }
+        ensures { GivesRead bare_session_of result (jobs_at_end (jobs_reading_of self) number) }
     {
         let JobsReader {
             base,
             block: _,
             procs,
-            exited: _,
             callers: _,
             own: _,
             parts,
@@ -420,45 +379,25 @@ impl JobsReader {
         let session = base.finish(number)?;
         Ok(JobsSession {
             session,
-            procs,
+            procs: procs.into_list(),
             parts,
         })
     }
 }
 
-fn block_of(exited: &[Process], process: Process) -> Block
-    ensures { result ≡ (if has_exited exited.now process then Block.Exited else Block.Caller process) }
+fn has_stood(procs: &ProcTable, proc: &PortProc) -> bool
+    ensures { result ≡ has_stood procs.now (bare proc.now) }
 {
-    if has_exited(exited, process) {
-        Block::Exited
-    } else {
-        Block::Caller(process)
-    }
-}
-
-fn has_exited(exited: &[Process], process: Process) -> bool
-    ensures { result ≡ has_exited exited.now process }
-{
-    exited.iter().any(|other| is_same_process(process, *other))
-}
-
-fn is_same_process(a: Process, b: Process) -> bool
-    ensures { result ≡ is_same_process a b }
-{
-    a.port == b.port && a.place == b.place
-}
-
-fn has_stood(procs: &[PortProc], proc: &PortProc) -> bool
-    ensures { result ≡ has_stood (map bare procs.now) (bare proc.now) }
-{
-    place_named(procs, u64::from(proc.port), proc.proc.name.as_bytes()).is_some()
-        || (proc.proc.leader && has_leader(procs, proc))
+    procs
+        .place_named(u64::from(proc.port), proc.proc.name.as_bytes())
+        .is_some()
+        || (proc.proc.leader && procs.has_leader(proc))
 }
 
 /// The session of processes that a text spells. `Bad` comes exactly where it spells none, and names its first wrong
 /// line, counted from 1 and as far as 32 bits count, and why that line is wrong.
 pub fn parse_jobs(alloc: Global, text: &[u8]) -> Result<JobsSession, TextFault>
-    ensures { Gives bare_session_of result (jobs_in text.now) }
+    ensures { GivesRead bare_session_of result (jobs_in text.now) }
 {
     let mut reader = JobsReader::new(alloc);
     let mut rest = text;

@@ -6,6 +6,7 @@ use mathlib.Core.List.{IsPrefix}
 use Rattle.std.proofs.lemmas.List.{length-map}
 use Rattle.std.proofs.lemmas.List.Elements.{All-head, All-tail}
 use Rattle.std.proofs.lemmas.List.Sums.{sum_by-cons, sum_by-append}
+use Rattle.tty_base.specs.Sizes.{MOST_CALLERS, MOST_ENTRIES}
 use Rattle.tty_base.specs.declared.characters.Flagged.{Flagged}
 use Rattle.tty_calls.specs.declared.journals.PortRun.{PortRun}
 use Rattle.tty_calls.specs.Plain.{PlainCall, PlainEntry, chars_in}
@@ -21,8 +22,8 @@ use Rattle.tty_terminal.proofs.CallerLists.{all_idle}
 use Rattle.tty_terminal.proofs.MarkLaws.{run_marks}
 use Rattle.uart_line.specs.Received.{received_list}
 use Rattle.uart_line.specs.Offered.{kept_list}
-use Rattle.journal_check.specs.Legal.{phase_at, name_at, flip_on, script_on}
-use Rattle.journal_check.specs.Short.{tick_count_in, IsCutShort}
+use Rattle.legal_runs.specs.Legal.{phase_at, name_at, flip_on, script_on}
+use Rattle.legal_runs.specs.Short.{tick_count_in, IsCutShort}
 use Rattle.journal_bound.specs.Counts.{written_count, byte_count_on, call_count_on}
 use Rattle.journal_bound.proofs.Totals.{total, total_least, total_plus, total_sixteen, total_listed, total_found}
 use Rattle.journal_bound.proofs.Names.{names_own, worth_of, worth_once, worth_over, calls_worth, one_each}
@@ -110,7 +111,7 @@ each_one (x ∷ xs) = omega (arith, sum_by-cons one_each x xs, each_one xs)
 
 few_scripts : (p ports : ℕ) (phases : List PlainPhase)
     → All (IsPhaseWithin ports) phases
-    → length (scripts_over p phases) ≤ 16 * length phases
+    → length (scripts_over p phases) ≤ MOST_CALLERS * length phases
 few_scripts p ports [] h = omega arith
 few_scripts p ports (x ∷ xs) h =
     let here = (All-head (IsPhaseWithin ports) x xs h).few_callers p in
@@ -225,8 +226,8 @@ pub never_full : (p : ℕ) (session : PlainSession) (run : PortRun) (t : Termina
     → IsWithinLimits session
     → IsCutShort p session run t
     → 2 * byte_count_on p session.phases + 3 * call_count_on p session.phases
-    + 2 * character_count p session.phases ≤ 4194304
-    → length run.journal.items < 4194304
+    + 2 * character_count p session.phases ≤ MOST_ENTRIES
+    → length run.journal.items < MOST_ENTRIES
 never_full p session run t limits h few =
     let most = bounded p session run t limits h in
     let calls = few_calls p session.phases in

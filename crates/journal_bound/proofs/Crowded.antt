@@ -8,6 +8,7 @@ use Rattle.std.proofs.lemmas.Bool.{cond_both, false≢true, true≢false, eqb-tr
 use Rattle.std.proofs.lemmas.Bool.{eq-eqb, ne_eqb, leb-true, leb-false, lt-ltb}
 use Rattle.std.proofs.lemmas.Nat.{mod_below}
 use Rattle.std.proofs.lemmas.List.{length-replicate, length-take, length-drop, take-take, get_or-take, get_or-drop}
+use Rattle.tty_base.specs.Sizes.{MOST_HELD, PIECE}
 use Rattle.tty_modes.specs.Settings.{Settings, has_flag}
 use Rattle.tty_modes.specs.declared.places.TheConstants.{OPOST, ONLCR, TAB3}
 use Rattle.tty_base.specs.declared.counters.Errno.{Errno}
@@ -29,7 +30,7 @@ use Rattle.tty_terminal.specs.Transfers.{has_parts, write_refusal, with_piece_po
 use Rattle.tty_terminal.specs.Transfers.{write_outcome, is_outlived, writing_outcome}
 use Rattle.tty_terminal.specs.Calls.{outcome}
 use Rattle.tty_terminal.specs.Steps.{left_by, TakesPart}
-use Rattle.journal_check.proofs.Truths.{if_true}
+use Rattle.legal_runs.proofs.Truths.{if_true}
 
 -- ---- one byte
 
@@ -95,7 +96,7 @@ no_room false fits h = absurd (true≢false h)
 record Stop (modes : Settings) (column : ℕ) (output : Output) (bytes : List ℕ) (n posted : ℕ) : Type 0 where
   halted : is_halted output ≡ true
   high : 4088 < length output.held + posted
-  low : 0 < posted → length output.held + posted ≤ 4096
+  low : 0 < posted → length output.held + posted ≤ MOST_HELD
   first : n ≡ 0 → 0 < length (posted_bytes modes column (get_or bytes 0 0))
   turn : (m : ℕ) → n ≡ suc m → posted ≡ 0 → (get_or bytes m 0 ≡ 13) × (get_or bytes (suc m) 0 ≡ 13 → ⊥)
 
@@ -166,8 +167,8 @@ stop_later modes column output b bytes n posted room rest =
         → length (after_send output (posted_bytes modes column b)).held ≡ length output.held + here
         → here ≤ room_of output
         → 0 < here + posted
-        → (0 < posted → length (after_send output (posted_bytes modes column b)).held + posted ≤ 4096)
-        → length output.held + (here + posted) ≤ 4096
+        → (0 < posted → length (after_send output (posted_bytes modes column b)).held + posted ≤ MOST_HELD)
+        → length output.held + (here + posted) ≤ MOST_HELD
     low_of zero here held fits some rest_low = omega (arith, fits, some)
     low_of (suc posted) here held fits some rest_low = (let low = rest_low (omega arith) in omega (arith, low, held))
 
@@ -277,7 +278,7 @@ refusal_pays t s bytes errno = if_pays t s.taken bytes (has_parts s) (tells (cou
 
 -- a full piece pays by its bytes
 full_pays : (bytes : List ℕ) (taken n before after : ℕ)
-    → 64 ≤ n
+    → PIECE ≤ n
     → before ≤ 8
     → (32 + pay bytes taken) + 2 * before ≤ pay bytes (taken + n) + 2 * after
 full_pays bytes taken n before after full few = omega (arith, full, few, one_small (is_return_end bytes taken))
@@ -288,7 +289,7 @@ short_pays : (bytes : List ℕ) (taken n posted held before after : ℕ)
     → before ≡ min 8 (held - 4088)
     → after ≡ min 8 ((held + posted) - 4088)
     → 4088 < held + posted
-    → (0 < posted → held + posted ≤ 4096)
+    → (0 < posted → held + posted ≤ MOST_HELD)
     → ((m : ℕ) → n ≡ suc m → posted ≡ 0 → (get_or bytes (taken + m) 0 ≡ 13) × (get_or bytes (taken + suc m) 0 ≡ 13 → ⊥))
     → (32 + pay bytes taken) + 2 * before ≤ pay bytes (taken + n) + 2 * after
 short_pays bytes taken n (suc posted) held before after some is_before is_after high low turn =
@@ -323,22 +324,24 @@ piece_pays t taken bytes tty = record { pays = pays_of }
     pays_of n is some within =
         let rest = drop taken bytes in
         let long = length-drop taken bytes in
-        let many = length-take 64 rest in
-        elim (either_way n (length (take 64 rest))) [
+        let many = length-take PIECE rest in
+        elim (either_way n (length (take PIECE rest))) [
           | inl below ↦
-              let ends = stop t.modes tty.column t.output (take 64 rest) n (sym is) below in
-              let front : take n (take 64 rest) ≡ take n rest = take-take n 64 rest (omega (arith, below, many)) in
+              let ends = stop t.modes tty.column t.output (take PIECE rest) n (sym is) below in
+              let front : take n (take PIECE rest) ≡ take n rest =
+              take-take n PIECE rest (omega (arith, below, many)) in
               let text : piece_text t.modes tty t.output rest
-              ≡ all_posted_bytes t.modes tty.column (take n (take 64 rest)) =
+              ≡ all_posted_bytes t.modes tty.column (take n (take PIECE rest)) =
               ap (λ (k : ℕ). all_posted_bytes t.modes tty.column (take k rest)) (sym is)
               ∙ ap (λ (xs : List ℕ). all_posted_bytes t.modes tty.column xs) (sym front) in
-              let posted = length (all_posted_bytes t.modes tty.column (take n (take 64 rest))) in
+              let posted = length (all_posted_bytes t.modes tty.column (take n (take PIECE rest))) in
               let held : length (after_send t.output (piece_text t.modes tty t.output rest)).held
               ≡ length t.output.held + posted =
               send_holds t.output (piece_text t.modes tty t.output rest) ends.halted
               ∙ ap (λ (xs : List ℕ). length t.output.held + length xs) text in
-              let place : (k : ℕ) → k < length (take 64 rest) → get_or bytes (taken + k) 0 ≡ get_or (take 64 rest) k 0 =
-              (λ k lt. sym (get_or-take 64 rest k 0 (omega (arith, lt, many)) ∙ get_or-drop taken bytes k 0)) in
+              let place : (k : ℕ) → k < length (take PIECE rest)
+              → get_or bytes (taken + k) 0 ≡ get_or (take PIECE rest) k 0 =
+              (λ k lt. sym (get_or-take PIECE rest k 0 (omega (arith, lt, many)) ∙ get_or-drop taken bytes k 0)) in
               short_pays bytes taken n posted (length t.output.held) (crowd t.output)
               (crowd (after_send t.output (piece_text t.modes tty t.output rest))) some refl
               (ap (λ (k : ℕ). min 8 (k - 4088)) held) ends.high ends.low

@@ -9,9 +9,9 @@ use Rattle.tty_terminal.specs.Terminals.{Terminal}
 use Rattle.tty_terminal.specs.Steps.{IsAllowed, after}
 use Rattle.tty_terminal.specs.Runs.{Leads, phase_after}
 use Rattle.tty_terminal.specs.Marks.{Marks, marks_after, marks_in}
-use Rattle.journal_check.specs.Legal.{is_phase_end, HangsUp}
-use Rattle.journal_check.specs.Short.{is_tick, tick_count_in, after_phases}
-use Rattle.journal_check.proofs.PhaseLemmas.{phase-after}
+use Rattle.legal_runs.specs.Legal.{is_phase_end, HangsUp}
+use Rattle.legal_runs.specs.Short.{is_tick, tick_count_in, after_phases}
+use Rattle.legal_runs.proofs.PhaseLemmas.{phase-after}
 use Rattle.journal_bound.proofs.Totals.{total, total_least, total_more}
 use Rattle.journal_bound.proofs.Spent.{bit, bit_small}
 use Rattle.journal_bound.proofs.Steps.{mark_count, is_hangup}

@@ -9,12 +9,12 @@ use Rattle.tty_calls.specs.Plain.{clock_ended, caller_ended, phase_ended, hung_u
 use Rattle.tty_calls.specs.Sessions.{PlainPhase, PlainSession, ticks_on}
 use Rattle.tty_terminal.specs.Terminals.{Terminal}
 use Rattle.tty_terminal.specs.Runs.{chars_of, phase_after}
-use Rattle.journal_check.specs.Legal.{phase_at, is_phase_end, ClockMark, ticks, clock_ends, clock_marks, clock_marks_in}
-use Rattle.journal_check.specs.Legal.{session_events, session_events_in, ticks_of, IsFinishedFrom, HangsUp, IsLegal}
-use Rattle.journal_check.specs.Short.{is_tick, tick_count_in, after_phases, IsCutShort}
+use Rattle.legal_runs.specs.Legal.{phase_at, is_phase_end, ClockMark, ticks, clock_ends, clock_marks, clock_marks_in}
+use Rattle.legal_runs.specs.Legal.{session_events, session_events_in, ticks_of, IsFinishedFrom, HangsUp, IsLegal}
+use Rattle.legal_runs.specs.Short.{is_tick, tick_count_in, after_phases, IsCutShort}
 use Rattle.journal_bound.proofs.Spent.{bit}
 use Rattle.journal_bound.proofs.Ends.{ticks_in}
-use Rattle.journal_check.proofs.ReplayLemmas.{phase_same}
+use Rattle.legal_runs.proofs.EventLemmas.{phase_same}
 
 -- ---- the entries of a part
 

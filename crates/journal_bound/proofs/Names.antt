@@ -11,9 +11,9 @@ use Rattle.std.proofs.lemmas.Slice.Eq.{bytes_eq-Decides}
 use Rattle.tty_calls.specs.Plain.{PlainCall}
 use Rattle.tty_calls.specs.Sessions.{PlainScript, PlainPhase, scripts_on, scripts_over}
 use Rattle.tty_calls.specs.Sessions.{with_name, names_of, calls_under, calls_of}
-use Rattle.journal_check.specs.Legal.{has_script}
+use Rattle.legal_runs.specs.Legal.{has_script}
 use Rattle.journal_bound.proofs.Totals.{total, total_shift, total_plus, total_none}
-use Rattle.journal_check.proofs.NameLemmas.{other_way}
+use Rattle.legal_runs.proofs.NameLemmas.{other_way}
 
 both_false : (a b : Bool) → a ≡ false → b ≡ false → (a || (b || false)) ≡ false
 both_false true b h k = absurd (false≢true (sym h))

@@ -30,10 +30,10 @@ use Rattle.tty_terminal.proofs.StandingLaws.{step_stands}
 use Rattle.tty_terminal.proofs.MarkLaws.{step_marks}
 use Rattle.tty_terminal.proofs.StepLaws.{step_does}
 use Rattle.tty_terminal.proofs.WaitLaws.{part_some, part_more as part_leaves}
-use Rattle.journal_check.specs.Legal.{phase_at, name_at, IsInPhase, AreInPhases}
-use Rattle.journal_check.specs.Short.{is_tick}
-use Rattle.journal_check.proofs.PhaseLemmas.{phase-after}
-use Rattle.journal_check.proofs.Truths.{if_true}
+use Rattle.legal_runs.specs.Legal.{phase_at, name_at, IsInPhase, AreInPhases}
+use Rattle.legal_runs.specs.Short.{is_tick}
+use Rattle.legal_runs.proofs.PhaseLemmas.{phase-after}
+use Rattle.legal_runs.proofs.Truths.{if_true}
 use Rattle.journal_bound.proofs.Totals.{total, total_least, total_paid}
 use Rattle.journal_bound.proofs.Names.{worth_of, one_each, caller_worth}
 use Rattle.journal_bound.proofs.Crowded.{crowd, pay, write_pays}

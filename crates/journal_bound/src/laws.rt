@@ -6,8 +6,8 @@ ghost use Rattle.tty_calls.specs.declared.journals.PortRun.{PortRun};
 ghost use Rattle.tty_calls.specs.Sessions.{PlainSession};
 ghost use Rattle.tty_calls.specs.Limits.{IsWithinLimits, character_count, tick_count};
 ghost use Rattle.tty_terminal.specs.Terminals.{Terminal};
-ghost use Rattle.journal_check.specs.Legal.{IsLegal};
-ghost use Rattle.journal_check.specs.Short.{IsCutShort};
+ghost use Rattle.legal_runs.specs.Legal.{IsLegal};
+ghost use Rattle.legal_runs.specs.Short.{IsCutShort};
 ghost use Rattle.journal_bound.specs.Counts.{byte_count_on, call_count_on};
 ghost use Rattle.journal_bound.specs.Rows.{worked_phases};
 

@@ -1,7 +1,7 @@
 -- Overruns, the characters of a journal, and those that a line's overruns leave of its received list.
 use Rattle.std.proofs.Common.{◌≡◌, inl, inr, ℕ, zero, suc, ◌+◌, ◌-◌, ◌<◌, ◌≤◌, ◌==◌, Bool, true, false, ◌||◌}
 use Rattle.std.proofs.Common.{if◌then◌else◌, List, [], ◌∷◌, ◌++◌, Some, length, take, drop, get_or, slice_get}
-use Rattle.std.proofs.Common.{refl, sym, ◌∙◌, ap, subst, arith, add-one, drop-cons, append_assoc, length-append}
+use Rattle.std.proofs.Common.{refl, sym, ◌∙◌, ap, subst, arith, add-one, drop-cons, append_assoc}
 use Rattle.std.specs.List.{list_any}
 use Rattle.std.proofs.lemmas.Bool.{false≢true, eqb-true, eq-eqb, cases_lt}
 use Rattle.std.proofs.lemmas.List.{take_at, take-append-drop, take_rest}
@@ -72,9 +72,6 @@ shown_past capacity k floor os i h =
     subst (AreShown capacity k floor) (sym (drop_past os i h)) (shown_none capacity k floor)
 
 -- ---- the characters of a journal
-
-pub not_short : (xs front rest : List Flagged) → length xs < length front → xs ≡ front ++ rest → ⊥
-not_short xs front rest less is = omega (arith, ap length is, length-append front rest, less)
 
 pub front_is : (xs front rest : List Flagged) → xs ≡ front ++ rest → take (length front) xs ≡ front
 front_is xs front rest is =
@@ -406,25 +403,5 @@ keeps_add first place chars os i next next' kept kept' d lt is next_is kept_is h
       rest = ap (λ (w : Walk). w.overruns) (sym step) ∙ rest;
     }))
 
--- two lists of one length, place by place
-pub record SameOn (xs ys : List Flagged) (i : ℕ) : Type 0 where
-  pub goes_on : xs ≡ ys → drop i xs ≡ drop i ys
-  pub came : drop i xs ≡ drop i ys → xs ≡ ys
-
-pub same_next : (xs ys : List Flagged) (i : ℕ) (d : Flagged)
-    → i < length xs
-    → length xs ≡ length ys
-    → get_or xs i d ≡ get_or ys i d
-    → (drop i xs ≡ drop i ys → xs ≡ ys)
-    → SameOn xs ys (i + 1)
-same_next xs ys i d lt long same came = record {
-  goes_on = λ is. ap (λ (zs : List Flagged). drop (i + 1) zs) is;
-  came = λ rest.
-      came (next_parts xs i d lt ∙ (λ j. same j ∷ rest j) ∙ sym (next_parts ys i d (omega (arith, lt, long))));
-}
-
 pub not_same : (xs ys : List Flagged) (i : ℕ) (d : Flagged) → (get_or xs i d ≡ get_or ys i d → ⊥) → xs ≡ ys → ⊥
 not_same xs ys i d differs is = differs (ap (λ (zs : List Flagged). get_or zs i d) is)
-
-pub same_past : (xs ys : List Flagged) (i : ℕ) → length xs ≤ i → length xs ≡ length ys → drop i xs ≡ drop i ys
-same_past xs ys i past long = drop_past xs i past ∙ sym (drop_past ys i (omega (arith, past, long)))

@@ -13,17 +13,18 @@ use Rattle.uart_line.specs.Offered.{kept_list, AreShown}
 use Rattle.journal_check.specs.declared.lines.Received.{Received}
 use Rattle.journal_check.specs.declared.verdicts.Verdict.TheVariants as verdict
 use Rattle.journal_check.specs.declared.checking.Finding.TheVariants.{Legal, Account}
-use Rattle.journal_check.specs.Legal.{phase_at, flip_on, script_of_first, script_on}
-use Rattle.journal_check.specs.Legal.{sent_by, AreSeen, IsAccounted, IsLegalOn}
-use Rattle.journal_check.specs.Verdicts.{HasNoWrong, IsFirstWrong, HasNoWrongAt, FirstIsWrong, FirstIsNotLegal, Fits}
+use Rattle.legal_runs.specs.Legal.{phase_at, flip_on, script_of_first, script_on, sent_by, AreSeen, IsAccounted}
+use Rattle.legal_runs.specs.Legal.{IsLegalOn}
+use Rattle.journal_check.specs.Verdicts.{HasNoWrong, IsFirstWrong, HasNoWrongAt, FirstIsWrong, FirstIsNotLegal}
+use Rattle.journal_check.specs.Verdicts.{VerdictFits}
 use Rattle.journal_check.specs.Receipts.{received_count, IsReceived}
 use Rattle.journal_check.specs.Seen.{phase_starts, line_stops, are_between}
-use Rattle.journal_check.specs.Findings.{IsKept, Finds, IsFirstAccount, FoundSoFar, first_found}
+use Rattle.journal_check.specs.Findings.{IsAccountKept, Finds, IsFirstAccount, FoundSoFar, first_found}
 use Rattle.journal_check.proofs.AccountLemmas.{walk_is}
-use Rattle.journal_check.proofs.ReceiptLemmas.{none_first}
+use Rattle.legal_runs.proofs.LineLemmas.{none_first}
 use Rattle.journal_check.proofs.FinishLemmas.{FinishedAsWell, finished_as_well}
 use Rattle.journal_check.proofs.SeenLemmas.{starts_enough, stops_enough, seen_as_between, knows_when}
-use Rattle.journal_check.proofs.VerdictLemmas.{no_wrong_if_legal, accounted_if_legal, legal_if_accounted}
+use Rattle.journal_check.proofs.VerdictLemmas.{no_wrong_if_legal, legal_if_accounted}
 
 -- ---- the account
 
@@ -46,8 +47,8 @@ sents_are p session overruns r received shown k lt =
     (walk_is (flip_on p session) 0 0 0 (received_list (script_of_first p session (k + 1))) overruns shown (omega arith))
 
 pub record Keeps (p : ℕ) (session : PlainSession) (run : PortRun) (b : Bool) : Type 0 where
-  pub to : IsTrue b → IsKept p session run
-  pub of : IsKept p session run → IsTrue b
+  pub to : IsTrue b → IsAccountKept p session run
+  pub of : IsAccountKept p session run → IsTrue b
 
 pub kept_as_found : (p : ℕ) (session : PlainSession) (run : PortRun) (r : Received)
     → IsReceived p session run.line.overruns.items r
@@ -62,7 +63,7 @@ kept_as_found p session run r received shown no_wrong =
 
 pub accounted : (p : ℕ) (session : PlainSession) (run : PortRun)
     → AreShown (flip_on p session) 0 0 run.line.overruns.items
-    → IsKept p session run
+    → IsAccountKept p session run
     → AreSeen p session run.journal.items run.line.overruns.items
     → IsAccounted p session run
 accounted p session run shown kept seen = record {
@@ -75,7 +76,7 @@ accounted p session run shown kept seen = record {
   sent = kept.sent;
 }
 
-pub kept_of : (p : ℕ) (session : PlainSession) (run : PortRun) → IsAccounted p session run → IsKept p session run
+pub kept_of : (p : ℕ) (session : PlainSession) (run : PortRun) → IsAccounted p session run → IsAccountKept p session run
 kept_of p session run h =
     record { arrived = h.arrived; fifo_lost = h.fifo_lost; sent = h.sent; chars = h.chars; finished = h.finished }
 
@@ -86,7 +87,7 @@ nothing_yet p session = omega (arith, ap (λ (cs : List Flagged). length cs) (no
 pub seen_as_found : (p : ℕ) (session : PlainSession) (run : PortRun) (r : Received) (starts stops : List ℕ)
     → IsReceived p session run.line.overruns.items r
     → AreShown (flip_on p session) 0 0 run.line.overruns.items
-    → IsKept p session run
+    → IsAccountKept p session run
     → starts ≡ 0 ∷ phase_starts 0 run.journal.items
     → stops ≡ line_stops 0 run.journal.items
     → (are_between r.ends.items starts stops 0 run.line.overruns.items ≡ true
@@ -102,7 +103,7 @@ seen_as_found p session run r starts stops received shown kept starts_is stops_i
 
 pub enough : (p : ℕ) (session : PlainSession) (run : PortRun) (r : Received) (starts stops : List ℕ)
     → IsReceived p session run.line.overruns.items r
-    → IsKept p session run
+    → IsAccountKept p session run
     → starts ≡ 0 ∷ phase_starts 0 run.journal.items
     → stops ≡ line_stops 0 run.journal.items
     → (length r.ends.items ≤ length starts) × (length r.ends.items ≤ length stops)
@@ -128,12 +129,6 @@ pub finds_legal : (p : ℕ) (session : PlainSession) (run : PortRun)
     → IsAccounted p session run
     → Finds p session run Legal
 finds_legal p session run no_wrong h = legal_if_accounted p session run no_wrong h
-
-pub finds_account : (p : ℕ) (session : PlainSession) (run : PortRun)
-    → HasNoWrong p session run.journal.items
-    → (IsAccounted p session run → ⊥)
-    → Finds p session run Account
-finds_account p session run no_wrong not = (no_wrong, λ legal. not (accounted_if_legal p session run legal))
 
 -- ---- all ports
 
@@ -166,10 +161,6 @@ more_at session runs p run P at here before q lt r is =
           let there : slice_get runs p ≡ Some r = ap (slice_get runs) (sym same) ∙ is in
           subst (λ (x : ℕ). P x r) (sym same) (subst (P p) (one_run runs p run r at there) here))
     ]
-
-pub so_far_none : (session : PlainSession) (runs : List PortRun) → SoFar session runs 0 None
-so_far_none session runs =
-    record { no_wrong = λ q lt. absurd (omega (arith, lt)); found = λ q lt. absurd (omega (arith, lt)) }
 
 found_more : (session : PlainSession) (runs : List PortRun) (p : ℕ) (run : PortRun) (account : Option ℕ)
     → slice_get runs p ≡ Some run
@@ -236,7 +227,7 @@ pub all_legal : (session : PlainSession) (runs : List PortRun) (ports : ℕ) (ac
     → length runs ≤ ports
     → account ≡ None
     → SoFar session runs ports account
-    → Fits session runs verdict.Legal
+    → VerdictFits session runs verdict.Legal
 all_legal session runs ports account all none h =
     let found : FoundSoFar session runs ports None = subst (FoundSoFar session runs ports) none h.found in
     record { each = λ q run is. found q (past_runs runs ports q run all is) run is }

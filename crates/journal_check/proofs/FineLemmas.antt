@@ -10,9 +10,9 @@ use Rattle.tty_calls.specs.Sessions.{PlainSession, call_at, counts_on}
 use Rattle.tty_terminal.specs.Terminals.{Terminal}
 use Rattle.tty_terminal.specs.Steps.{after}
 use Rattle.tty_terminal.specs.Runs.{Leads, is_of_call, RunHas, NextHas, CallGoesOn, GoesOn, OneGeneration}
-use Rattle.journal_check.specs.Legal.{AreInPhases}
+use Rattle.legal_runs.specs.Legal.{AreInPhases}
 use Rattle.journal_check.specs.Verdicts.{AreFine}
-use Rattle.journal_check.proofs.PhaseLemmas.{phase-after}
+use Rattle.legal_runs.proofs.PhaseLemmas.{phase-after}
 
 -- ---- a front of a journal in one generation is in one generation
 

@@ -4,10 +4,9 @@ use Rattle.std.proofs.Common.{false, ◌&&◌, if◌then◌else◌, List, [], �
 use Rattle.std.proofs.Common.{sym, ◌∙◌, ap, subst, arith, append_assoc, append-nil, length-append}
 use Rattle.std.specs.Prelude.{count_by, sum}
 use Rattle.std.proofs.lemmas.Bool.{false≢true, and_parts, eqb-true, eq-eqb}
-use Rattle.std.proofs.lemmas.Bool.{cases_lt, and_from, le-ltb, leb-true, lt-ltb}
+use Rattle.std.proofs.lemmas.Bool.{and_from, le-ltb, lt-ltb}
 use Rattle.std.proofs.lemmas.Grind.{flat_map-append}
-use Rattle.std.proofs.lemmas.List.{get_or-map, length-replicate}
-use Rattle.std.proofs.lemmas.Option.{slice_get_past}
+use Rattle.std.proofs.lemmas.List.{length-replicate}
 use Rattle.tty_base.specs.declared.characters.Flagged.{Flagged}
 use Rattle.tty_base.specs.declared.lines.Overrun.{Overrun}
 use Rattle.tty_calls.specs.declared.journals.Who.{Who}
@@ -20,26 +19,25 @@ use Rattle.tty_terminal.specs.Terminals.{Terminal, caller_at, idle_caller, is_ov
 use Rattle.tty_terminal.specs.declared.callers.CallerState.{CallerState}
 use Rattle.tty_terminal.proofs.CallerLists.{all_idle}
 use Rattle.tty_terminal.specs.Steps.{IsAllowed, Allowed, after, may_end, callers_in, nothing_to_flush}
-use Rattle.tty_terminal.specs.Runs.{Leads, is_of_call, phase_after}
+use Rattle.tty_terminal.specs.Runs.{Leads, phase_after}
 use Rattle.tty_terminal.specs.Marks.{Marks, marks_of, marks_after}
-use Rattle.tty_terminal.specs.Standing.{Standing, standing_of, standing_after_own, standing_after_other, standing_after}
+use Rattle.tty_terminal.specs.Standing.{Standing, standing_of, standing_after_own, standing_after_other}
 use Rattle.tty_terminal.proofs.MarkLaws.{step_marks}
 use Rattle.tty_terminal.proofs.StandingLaws.{step_stands}
 use Rattle.tty_terminal.proofs.StepLaws.{step_does}
 use Rattle.tty_terminal.proofs.Runs.{leads_more}
-use Rattle.journal_check.specs.Legal.{phase_at, name_at, has_script, is_caller_end, IsInPhase, first_step}
-use Rattle.journal_check.specs.Legal.{steps_in, sent_by, line_ends, line_ends_in, ClockMark, clock_ends}
-use Rattle.journal_check.specs.Legal.{clock_marks, clock_marks_in, session_events, session_events_in}
-use Rattle.journal_check.specs.Legal.{ticks_of, EndsPhase, HangsUp, IsFinishedFrom, IsFinished}
-use Rattle.journal_check.specs.Phases.{BeginsPhase, HasPlayed, CompletesPhase}
+use Rattle.legal_runs.specs.Legal.{phase_at, name_at, has_script, IsInPhase, first_step, sent_by, line_ends}
+use Rattle.legal_runs.specs.Legal.{line_ends_in, ClockMark, clock_ends, clock_marks, clock_marks_in, session_events}
+use Rattle.legal_runs.specs.Legal.{session_events_in, ticks_of, EndsPhase, HangsUp, IsFinishedFrom, IsFinished}
+use Rattle.legal_runs.specs.Phases.{BeginsPhase, CompletesPhase}
 use Rattle.journal_check.specs.Verdicts.{AreFine, opening_of, HasNoWrong}
 use Rattle.journal_check.specs.Finishing.{may_go, ticks_after, is_hangup, is_none, goes_well}
-use Rattle.journal_check.proofs.NameLemmas.{first_next, all_distinct, names_few, length_over, no_calls_yet}
-use Rattle.journal_check.proofs.TurnLemmas.{first_stays}
-use Rattle.journal_check.proofs.PhaseLemmas.{phase-after}
-use Rattle.journal_check.proofs.MarkLemmas.{LineOf, ClockOf, phase_part, line_marks, clock_marks_of}
-use Rattle.journal_check.proofs.OverLemmas.{all_over}
-use Rattle.journal_check.proofs.Truths.{nothing_first, nothing_rest}
+use Rattle.legal_runs.proofs.NameLemmas.{names_few, length_over, no_calls_yet}
+use Rattle.legal_runs.proofs.PhaseLemmas.{phase-after}
+use Rattle.legal_runs.proofs.MarkLemmas.{LineOf, ClockOf, phase_part, line_marks, clock_marks_of}
+use Rattle.legal_runs.proofs.Truths.{nothing_first, nothing_rest}
+use Rattle.legal_runs.proofs.EventLemmas.{quiet_phase}
+use Rattle.legal_runs.proofs.CallerLemmas.{PlaysAt, plays_more, three_true, callers_complete, played_next, plays_first}
 
 -- ---- kinds of entries
 
@@ -92,18 +90,6 @@ no_going caller_ended sent ticks passed is = absurd (false≢true is)
 no_going phase_ended sent ticks passed is = absurd (false≢true is)
 no_going (hung_up dropped) sent ticks passed is = refl
 
-pub quiet_phase : (event : PlainEvent) (k : ℕ) → session_events event ≡ [] → phase_after event k ≡ k
-quiet_phase (answered a dropped) k none = refl
-quiet_phase (parted n) k none = refl
-quiet_phase waited k none = refl
-quiet_phase (flushed chars) k none = refl
-quiet_phase ticked k none = refl
-quiet_phase (line_ended n) k none = refl
-quiet_phase clock_ended k none = refl
-quiet_phase caller_ended k none = refl
-quiet_phase phase_ended k none = cc
-quiet_phase (hung_up dropped) k none = refl
-
 -- ---- parts of a journal
 
 -- the first end of a phase, or hangup, is at one place
@@ -149,144 +135,6 @@ part_past (x ∷ sofar) (y ∷ part) es rest last none end same =
     let found =
     part_past sofar part es rest last (nothing_rest (session_events x.event) (session_events_in sofar) none) end tail in
     (found.0, (λ i. here i ∷ found.1 i))
-
--- ---- where the callers stand in a phase
-
--- a caller of the phase has made some of its calls, and all of them where it is over; another has made none
-abbrev pub Plays : Bool → (first count next : ℕ) → Bool → Type 0
-Plays true first count next over = (first ≤ next) × (next ≤ first + count) × (over ≡ true → next ≡ first + count)
-Plays false first count next over = (next ≡ first) × (over ≡ false)
-
-pub who_is : (w : Who) (c : ℕ) → is_caller w c ≡ true → w ≡ who.Caller c
-who_is (who.Caller d) c is = ap (λ (n : ℕ). who.Caller n) (eqb-true d c is)
-who_is who.Flusher c is = absurd (false≢true is)
-who_is who.Line c is = absurd (false≢true is)
-who_is who.Clock c is = absurd (false≢true is)
-who_is who.Session c is = absurd (false≢true is)
-
-record OwnEntry (event : PlainEvent) (step next : ℕ) (over : Bool) : Type 0 where
-  calls : is_of_call event ≡ true → (step ≡ next) × (over ≡ false)
-  end : is_caller_end event ≡ true → step ≡ next
-
-own_entry : (f : ℕ → ℕ → Option PlainCall) (counts : List ℕ) (t : Terminal) (c step part : ℕ) (event : PlainEvent)
-    → IsAllowed f counts t (who.Caller c) step part event
-    → OwnEntry event step (caller_at t c).next (caller_at t c).over
-own_entry f counts t c step part (answered a dropped) h =
-    record { calls = λ of. (h.next.at_step, h.next.not_over); end = λ is. absurd (false≢true is) }
-own_entry f counts t c step part (parted n) h =
-    record { calls = λ of. (h.next.at_step, h.next.not_over); end = λ is. absurd (false≢true is) }
-own_entry f counts t c step part waited h =
-    record { calls = λ of. (h.next.at_step, h.next.not_over); end = λ is. absurd (false≢true is) }
-own_entry f counts t c step part (flushed chars) h =
-    record { calls = λ of. absurd (false≢true of); end = λ is. absurd (false≢true is) }
-own_entry f counts t c step part ticked h =
-    record { calls = λ of. absurd (false≢true of); end = λ is. absurd (false≢true is) }
-own_entry f counts t c step part (line_ended n) h =
-    record { calls = λ of. absurd (false≢true of); end = λ is. absurd (false≢true is) }
-own_entry f counts t c step part clock_ended h =
-    record { calls = λ of. absurd (false≢true of); end = λ is. absurd (false≢true is) }
-own_entry f counts t c step part caller_ended h = record { calls = λ of. absurd (false≢true of); end = λ is. h.at_step }
-own_entry f counts t c step part phase_ended h =
-    record { calls = λ of. absurd (false≢true of); end = λ is. absurd (false≢true is) }
-own_entry f counts t c step part (hung_up dropped) h =
-    record { calls = λ of. absurd (false≢true of); end = λ is. absurd (false≢true is) }
-
--- an entry of its own
-own_plays : (event : PlainEvent) (step generation first count : ℕ) (s : Standing)
-    → Plays true first count s.next s.over
-    → OwnEntry event step s.next s.over
-    → (is_of_call event ≡ true → (first ≤ step) × (step < first + count))
-    → (is_caller_end event ≡ true → first + count ≤ step)
-    → Plays true first count (standing_after_own event generation s).next (standing_after_own event generation s).over
-own_plays (answered a dropped) step generation first count s h own calls end = (
-  omega (arith, h.0),
-  omega (arith, (own.calls refl).0, (calls refl).1),
-  λ over. absurd (false≢true (sym (own.calls refl).1 ∙ over)),
-)
-own_plays (parted n) step generation first count s h own calls end = h
-own_plays waited step generation first count s h own calls end = h
-own_plays (flushed chars) step generation first count s h own calls end = h
-own_plays ticked step generation first count s h own calls end = h
-own_plays (line_ended n) step generation first count s h own calls end = h
-own_plays clock_ended step generation first count s h own calls end = h
-own_plays caller_ended step generation first count s h own calls end =
-    (h.0, h.1, λ over. omega (arith, h.1, own.end refl, end refl))
-own_plays phase_ended step generation first count s h own calls end = h
-own_plays (hung_up dropped) step generation first count s h own calls end = h
-
-pub other_stays : (event : PlainEvent) (s : Standing) → session_events event ≡ [] → standing_after_other event s ≡ s
-other_stays (answered a dropped) s none = refl
-other_stays (parted n) s none = refl
-other_stays waited s none = refl
-other_stays (flushed chars) s none = refl
-other_stays ticked s none = refl
-other_stays (line_ended n) s none = refl
-other_stays clock_ended s none = refl
-other_stays caller_ended s none = refl
-other_stays phase_ended s none = cc
-other_stays (hung_up dropped) s none = refl
-
-abbrev pub PlaysAt : ℕ → PlainSession → ℕ → Terminal → ℕ → Type 0
-PlaysAt p session k t c = Plays (has_script (scripts_on p (phase_at session k)) (name_at p session c))
-    (first_step p session k c) (steps_in p session k c) (caller_at t c).next (caller_at t c).over
-
-has_true : (b : Bool) (first count next : ℕ) (over : Bool)
-    → b ≡ true
-    → Plays b first count next over
-    → Plays true first count next over
-has_true true first count next over is h = h
-has_true false first count next over is h = absurd (false≢true is)
-
-from_true : (b : Bool) (first count next : ℕ) (over : Bool)
-    → b ≡ true
-    → Plays true first count next over
-    → Plays b first count next over
-from_true true first count next over is h = h
-from_true false first count next over is h = absurd (false≢true is)
-
-pub plays_more : (p : ℕ) (session : PlainSession) (k : ℕ) (t : Terminal) (e : PlainEntry) (c : ℕ)
-    → Allowed (call_at p session) (counts_on p session) t e
-    → IsInPhase p session k e.who e.step e.event
-    → session_events e.event ≡ []
-    → PlaysAt p session k t c
-    → PlaysAt p session k (after (call_at p session) t e) c
-plays_more p session k t e c allowed in_phase none h = either (is_caller e.who c) refl
-  where
-    f : ℕ → ℕ → Option PlainCall
-    f = call_at p session
-
-    b : Bool
-    b = has_script (scripts_on p (phase_at session k)) (name_at p session c)
-
-    stands : standing_of (caller_at (after f t e) c) ≡ standing_after c e (standing_of (caller_at t c))
-    stands = step_stands f (counts_on p session) t e allowed c
-
-    either : (own : Bool) → is_caller e.who c ≡ own → PlaysAt p session k (after f t e) c
-    either true is =
-        let by : e.who ≡ who.Caller c = who_is e.who c is in
-        let there = subst (λ (w : Who). IsInPhase p session k w e.step e.event) by in_phase in
-        let entry = own_entry f (counts_on p session) t c e.step e.part e.event
-        (subst (λ (w : Who). IsAllowed f (counts_on p session) t w e.step e.part e.event) by allowed.1) in
-        let now : standing_of (caller_at (after f t e) c)
-        ≡ standing_after_own e.event e.generation (standing_of (caller_at t c)) =
-        stands
-        ∙ ap (λ o.
-        if o
-        then standing_after_own e.event e.generation (standing_of (caller_at t c))
-        else standing_after_other e.event (standing_of (caller_at t c))) is in
-        subst (λ (s : Standing). Plays b (first_step p session k c) (steps_in p session k c) s.next s.over) (sym now)
-        (from_true b _ _ _ _ there.0
-        (own_plays e.event e.step e.generation (first_step p session k c) (steps_in p session k c)
-        (standing_of (caller_at t c)) (has_true b _ _ _ _ there.0 h) entry there.1 there.2))
-    either false is =
-        let now : standing_of (caller_at (after f t e) c) ≡ standing_of (caller_at t c) =
-        stands
-        ∙ ap (λ o.
-        if o
-        then standing_after_own e.event e.generation (standing_of (caller_at t c))
-        else standing_after_other e.event (standing_of (caller_at t c))) is
-        ∙ other_stays e.event (standing_of (caller_at t c)) none in
-        subst (λ (s : Standing). Plays b (first_step p session k c) (steps_in p session k c) s.next s.over) (sym now) h
 
 -- ---- within a phase
 
@@ -396,60 +244,6 @@ midway_more p session overruns k passed t0 sofar t e h allowed in_phase none may
 
 -- ---- the end of a phase
 
-pub three_true : (a b c d : Bool) → (a && (b && (c && d))) ≡ true → (a ≡ true) × (b ≡ true) × (c ≡ true)
-three_true true true true d h = (refl, refl, refl)
-three_true true true false d h = absurd (false≢true h)
-three_true true false c d h = absurd (false≢true h)
-three_true false b c d h = absurd (false≢true h)
-
-over_has : (b : Bool) (first count next : ℕ) (over : Bool) → Plays b first count next over → over ≡ true → b ≡ true
-over_has true first count next over h is = refl
-over_has false first count next over h is = absurd (false≢true (sym h.1 ∙ is))
-
-played : (b : Bool) (first count next : ℕ) (over : Bool)
-    → Plays b first count next over
-    → (b ≡ true → over ≡ true)
-    → HasPlayed b first count next over
-played true first count next over h all = (h.2 (all refl), all refl)
-played false first count next over h all = h
-
-named_within : (p : ℕ) (session : PlainSession) (k c n : ℕ)
-    → length (names_of (scripts_over p session.phases)) ≤ n
-    → has_script (scripts_on p (phase_at session k)) (name_at p session c) ≡ true
-    → c < n
-named_within p session k c n many is = elim (cases_lt c (length (names_of (scripts_over p session.phases)))) [
-  | inl less ↦ omega (arith, less, many)
-  | inr past ↦ absurd (false≢true (sym (ap (λ name. has_script (scripts_on p (phase_at session k)) name)
-      (slice_get_past (names_of (scripts_over p session.phases)) c past))
-      ∙ is))
-]
-
--- where the phase may end, each of its callers has made its calls, and is over
-pub callers_complete : (p : ℕ) (session : PlainSession) (k : ℕ) (t : Terminal)
-    → k < length session.phases
-    → t.phase ≡ k
-    → length (names_of (scripts_over p session.phases)) ≤ length t.callers
-    → ((c : ℕ) → PlaysAt p session k t c)
-    → may_end (counts_on p session) t ≡ true
-    → (c : ℕ)
-    → HasPlayed (has_script (scripts_on p (phase_at session k)) (name_at p session c)) (first_step p session k c)
-    (steps_in p session k c) (caller_at t c).next (caller_at t c).over
-callers_complete p session k t lt phase many plays may c =
-    let scripts = scripts_on p (phase_at session k) in
-    let parts = three_true t.line_over t.clock_over
-    (nat_le (callers_in (counts_on p session) t.phase) (count_by is_over t.callers)) (nothing_to_flush t) may in
-    let count : callers_in (counts_on p session) t.phase ≡ length scripts =
-    ap (callers_in (counts_on p session)) phase
-    ∙ get_or-map (λ (phase : PlainPhase). length (scripts_on p phase)) session.phases k
-    (record { lines = []; ticks = []; callers = [] }) 0 lt in
-    let all : length scripts ≤ count_by is_over t.callers =
-    omega (arith, leb-true (callers_in (counts_on p session) t.phase) (count_by is_over t.callers) parts.2, count) in
-    played (has_script scripts (name_at p session c)) _ _ _ _ (plays c) (λ is.
-    all_over (names_of (scripts_over p session.phases)) scripts t.callers c
-    (all_distinct (scripts_over p session.phases))
-    (λ d over. over_has (has_script scripts (name_at p session d)) _ _ _ _ (plays d) over) all
-    (named_within p session k c (length t.callers) many is) is)
-
 completes : (p : ℕ) (session : PlainSession) (overruns : List Overrun) (k passed : ℕ) (t0 : Terminal)
     (sofar : List PlainEntry) (t : Terminal)
     → Midway p session overruns k passed t0 sofar t
@@ -466,22 +260,6 @@ completes p session overruns k passed t0 sofar t h may =
       first = h.first;
       callers = callers_complete p session k t h.lt h.phase h.many h.callers may;
     }
-
-pub played_next : (p : ℕ) (session : PlainSession) (k c next : ℕ) (over : Bool) (b : Bool)
-    → k < length session.phases
-    → has_script (scripts_on p (phase_at session k)) (name_at p session c) ≡ b
-    → HasPlayed b (first_step p session k c) (steps_in p session k c) next over
-    → next ≡ first_step p session (k + 1) c
-played_next p session k c next over true lt is h = h.0 ∙ sym (first_next p session k c lt)
-played_next p session k c next over false lt is h = h.0 ∙ sym (first_stays p session k c lt is)
-
-pub plays_first : (b : Bool) (first count next : ℕ) (over : Bool)
-    → next ≡ first
-    → over ≡ false
-    → Plays b first count next over
-plays_first true first count next over at not =
-    (omega (arith, at), omega (arith, at), λ is. absurd (false≢true (sym not ∙ is)))
-plays_first false first count next over at not = (at, not)
 
 -- a terminal at which phase k begins, and where its callers stand
 record Opens (p : ℕ) (session : PlainSession) (k : ℕ) (t : Terminal) : Type 0 where

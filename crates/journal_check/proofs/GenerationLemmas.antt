@@ -21,8 +21,8 @@ use Rattle.tty_terminal.proofs.StepLaws.{runs_of}
 use Rattle.tty_terminal.proofs.OneRun.{leads_runs}
 use Rattle.tty_terminal.proofs.MarkLaws.{step_marks}
 use Rattle.tty_terminal.proofs.StandingLaws.{step_stands}
-use Rattle.journal_check.specs.Replaying.{HasPiece, IsRunOf, latest_after}
-use Rattle.journal_check.proofs.Truths.{on_false, on_true}
+use Rattle.journal_check.specs.Replaying.{HasPiece, IsLatestRunOf, latest_after}
+use Rattle.legal_runs.proofs.Truths.{on_false, on_true}
 
 -- ---- flush runs
 
@@ -170,9 +170,9 @@ first_piece (Some p) run part h none =
 
 run_of : (es : List PlainEntry) (p : Option Piece) (piece : Piece) (generation : ℕ)
     → p ≡ Some piece
-    → IsRunOf es p generation
+    → IsLatestRunOf es p generation
     → RunHas piece.run generation es × HasPiece es piece.run generation
-run_of es p piece generation is h = subst (λ (o : Option Piece). IsRunOf es o generation) is h
+run_of es p piece generation is h = subst (λ (o : Option Piece). IsLatestRunOf es o generation) is h
 
 zero_or_more : (n : ℕ) → (n ≡ 0) ⊎ (0 < n)
 zero_or_more n = elim (cases_lt 0 n) [ inl more ↦ inr more | inr none ↦ inl (omega (arith, none)) ]
@@ -181,7 +181,7 @@ zero_or_more n = elim (cases_lt 0 n) [ inl more ↦ inr more | inr none ↦ inl 
 pub run_has : (f : ℕ → ℕ → Option PlainCall) (counts : List ℕ) (t : Terminal) (es : List PlainEntry) (u : Terminal)
     (latest : ℕ) (e : PlainEntry)
     → Leads f counts t es u
-    → IsRunOf es u.flushed latest
+    → IsLatestRunOf es u.flushed latest
     → Allowed f counts u e
     → is_flush e.event ≡ true
     → (0 < e.part → latest ≡ e.generation)
@@ -200,7 +200,7 @@ run_has f counts t es u latest e leads run allowed is stays =
 -- and where the entries stay in one generation so does it
 pub flush_stays : (f : ℕ → ℕ → Option PlainCall) (counts : List ℕ) (es : List PlainEntry) (u : Terminal) (latest : ℕ)
     (e : PlainEntry)
-    → IsRunOf es u.flushed latest
+    → IsLatestRunOf es u.flushed latest
     → Allowed f counts u e
     → is_flush e.event ≡ true
     → OneGeneration (es ++ e ∷ [])
@@ -228,8 +228,8 @@ piece_more es e run generation has = record {
 
 other_run : (es : List PlainEntry) (e : PlainEntry) (p : Option Piece) (latest : ℕ)
     → is_flush e.event ≡ false
-    → IsRunOf es p latest
-    → IsRunOf (es ++ e ∷ []) p latest
+    → IsLatestRunOf es p latest
+    → IsLatestRunOf (es ++ e ∷ []) p latest
 other_run es e None latest other run = tt
 other_run es e (Some p) latest other run = (
   run_more p.run latest es e run.0
@@ -269,10 +269,10 @@ latest_flush (hung_up dropped) generation latest is = absurd (false≢true is)
 pub run_after : (f : ℕ → ℕ → Option PlainCall) (counts : List ℕ) (t : Terminal) (es : List PlainEntry) (u : Terminal)
     (latest : ℕ) (e : PlainEntry)
     → Leads f counts t es u
-    → IsRunOf es u.flushed latest
+    → IsLatestRunOf es u.flushed latest
     → Allowed f counts u e
     → (is_flush e.event ≡ true → 0 < e.part → latest ≡ e.generation)
-    → IsRunOf (es ++ e ∷ []) (after f u e).flushed (latest_after e.event e.generation latest)
+    → IsLatestRunOf (es ++ e ∷ []) (after f u e).flushed (latest_after e.event e.generation latest)
 run_after f counts t es u latest e leads run allowed stays = either (is_flush e.event) refl
   where
     now : (after f u e).flushed ≡ (marks_after e.event e.step e.part (marks_of u)).latest
@@ -280,12 +280,12 @@ run_after f counts t es u latest e leads run allowed stays = either (is_flush e.
 
     either : (b : Bool)
         → is_flush e.event ≡ b
-        → IsRunOf (es ++ e ∷ []) (after f u e).flushed (latest_after e.event e.generation latest)
+        → IsLatestRunOf (es ++ e ∷ []) (after f u e).flushed (latest_after e.event e.generation latest)
     either true is =
         let begun : (after f u e).flushed ≡ Some (record { run = e.step; part = e.part }) =
         now ∙ latest_of_flush e.event e.step e.part (marks_of u) is in
         let has = run_has f counts t es u latest e leads run allowed is (stays is) in
-        let whole : IsRunOf (es ++ e ∷ []) (Some (record { run = e.step; part = e.part })) e.generation = (
+        let whole : IsLatestRunOf (es ++ e ∷ []) (Some (record { run = e.step; part = e.part })) e.generation = (
           run_more e.step e.generation es e has (λ h. refl),
           record {
             before = es;
@@ -297,14 +297,14 @@ run_after f counts t es u latest e leads run allowed stays = either (is_flush e.
             in_generation = refl;
           },
         ) in
-        subst (λ (g : ℕ). IsRunOf (es ++ e ∷ []) (after f u e).flushed g)
+        subst (λ (g : ℕ). IsLatestRunOf (es ++ e ∷ []) (after f u e).flushed g)
         (sym (latest_flush e.event e.generation latest is))
-        (subst (λ (o : Option Piece). IsRunOf (es ++ e ∷ []) o e.generation) (sym begun) whole)
+        (subst (λ (o : Option Piece). IsLatestRunOf (es ++ e ∷ []) o e.generation) (sym begun) whole)
     either false other =
         let same : (after f u e).flushed ≡ u.flushed = now ∙ latest_of_other e.event e.step e.part (marks_of u) other in
-        subst (λ (g : ℕ). IsRunOf (es ++ e ∷ []) (after f u e).flushed g)
+        subst (λ (g : ℕ). IsLatestRunOf (es ++ e ∷ []) (after f u e).flushed g)
         (sym (latest_other e.event e.generation latest other))
-        (subst (λ (o : Option Piece). IsRunOf (es ++ e ∷ []) o latest) (sym same)
+        (subst (λ (o : Option Piece). IsLatestRunOf (es ++ e ∷ []) o latest) (sym same)
         (other_run es e u.flushed latest other run))
 
 -- ---- calls
@@ -400,10 +400,6 @@ call_goes Flusher c step generation es is h = absurd (false≢true is)
 call_goes Line c step generation es is h = absurd (false≢true is)
 call_goes Clock c step generation es is h = absurd (false≢true is)
 call_goes Session c step generation es is h = absurd (false≢true is)
-
-part_own : (b : Bool) (own here : ℕ) → b ≡ false → own ≡ here → (if b then here else own) ≡ here
-part_own true own here is same = refl
-part_own false own here is same = same
 
 -- the generation that a caller keeps after a part is the part's
 part_generation : (n own here : ℕ) → (nat_lt 0 n ≡ true → own ≡ here) → (if n == 0 then here else own) ≡ here

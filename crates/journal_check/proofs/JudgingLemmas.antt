@@ -7,6 +7,7 @@ use Rattle.std.proofs.lemmas.Bool.{false≢true}
 use Rattle.std.proofs.lemmas.List.{get_or-replicate, length-replicate, length-take-le}
 use Rattle.std.proofs.lemmas.List.{take-append-drop, take_all, take_more}
 use Rattle.std.proofs.lemmas.Option.{get_or_from_slice_get, slice_get_within}
+use Rattle.tty_base.specs.Sizes.{NUMBER_END}
 use Rattle.tty_calls.specs.declared.journals.Who.{Who}
 use Rattle.tty_calls.specs.declared.journals.Who.TheVariants as who
 use Rattle.tty_calls.specs.Plain.{PlainCall, PlainEvent, answered, parted, waited, flushed, ticked, line_ended}
@@ -23,13 +24,13 @@ use Rattle.tty_terminal.proofs.Runs.{run_bounded, run_capacity, run_within}
 use Rattle.tty_terminal.proofs.WaitLaws.{run_part_count}
 use Rattle.journal_check.specs.declared.turns.Turn.{Turn}
 use Rattle.journal_check.specs.declared.replay.Replay.{Replay}
-use Rattle.journal_check.specs.Legal.{flip_on}
+use Rattle.legal_runs.specs.Legal.{flip_on}
 use Rattle.journal_check.specs.Verdicts.{IsFine, AreFineTo, HasNoWrong, IsFirstWrong}
 use Rattle.journal_check.specs.WellFormed.{IsWellFormed}
 use Rattle.journal_check.specs.Scripts.{no_turn, IsIdle, AreIdle}
-use Rattle.journal_check.specs.Replaying.{IsReady, Follows}
+use Rattle.journal_check.specs.Replaying.{CanBeJudged, Follows}
 use Rattle.journal_check.proofs.AccountLemmas.{next_at}
-use Rattle.journal_check.proofs.NameLemmas.{names_few, length_over, no_calls_yet}
+use Rattle.legal_runs.proofs.NameLemmas.{names_few, length_over, no_calls_yet}
 use Rattle.journal_check.proofs.ReplayLemmas.{follows_leads}
 
 -- ---- the first turns
@@ -102,9 +103,9 @@ taken_few f counts t (e ∷ es) u h capacity within =
 
 pub ready : (p : ℕ) (session : PlainSession) (before : List PlainEntry) (r : Replay)
     → IsWellFormed session
-    → length before < 2 ^ 31
+    → length before < NUMBER_END
     → Follows p session before r
-    → IsReady p session r
+    → CanBeJudged p session r
 ready p session before r formed few h =
     let f = call_at p session in
     let counts = counts_on p session in

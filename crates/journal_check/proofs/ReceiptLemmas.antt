@@ -1,10 +1,10 @@
 -- What a port's line received, one more phase.
 use Rattle.std.proofs.Common.{◌≡◌, inl, inr, ℕ, zero, suc, ◌+◌, ◌<◌, ◌≤◌, IsTrue, List, [], ◌∷◌}
 use Rattle.std.proofs.Common.{◌++◌, length, take, drop, get_or, map, refl, sym, ◌∙◌, ap, subst}
-use Rattle.std.proofs.Common.{arith, append_assoc, append-nil, length-append, length-drop}
+use Rattle.std.proofs.Common.{arith, length-append, length-drop}
 use Rattle.std.specs.Prelude.{All, sum_by}
 use Rattle.std.proofs.lemmas.Bool.{cases_lt}
-use Rattle.std.proofs.lemmas.List.{get_or_past, take_more, take_all, take-append-drop, map_more}
+use Rattle.std.proofs.lemmas.List.{get_or_past, take_more, take_all, take-append-drop}
 use Rattle.std.proofs.lemmas.List.Elements.{All-nil, All-same, All-get_or}
 use Rattle.std.proofs.lemmas.List.Sums.{sum_by-cons, sum_by-append}
 use Rattle.tty_base.specs.Contents.{Contents}
@@ -14,41 +14,16 @@ use Rattle.tty_base.specs.declared.lines.Overrun.{Overrun}
 use Rattle.tty_base.specs.Lines.{arrival_count, is_step}
 use Rattle.tty_calls.specs.Sessions.{PlainPhase, PlainSession, line_on}
 use Rattle.tty_calls.specs.Limits.{character_count}
-use Rattle.uart_line.specs.Received.{received_list, received_list_after, lost_count, closed_script, script}
+use Rattle.uart_line.specs.Received.{received_list, lost_count, closed_script, script}
 use Rattle.uart_line.specs.LineState.{LineState, HasDone}
-use Rattle.uart_line.specs.Offered.{Adds}
+use Rattle.uart_line.specs.Offered.{AddsCharacters}
 use Rattle.journal_check.specs.declared.lines.Received.{Received}
-use Rattle.journal_check.specs.Legal.{phase_at, script_of_first, script_on}
+use Rattle.legal_runs.specs.Legal.{phase_at, script_of_first, script_on}
 use Rattle.journal_check.specs.WellFormed.{IsPhaseWellFormed, IsWellFormed}
 use Rattle.journal_check.specs.Accounts.{Walk, kept_from}
 use Rattle.journal_check.specs.Receipts.{received_count, kept_count, IsReceived, HasReceived}
 use Rattle.journal_check.proofs.AccountLemmas.{walk_append}
-
-abbrev no_phase : PlainPhase
-no_phase = record { lines = []; ticks = []; callers = [] }
-
-pub script_more : (lines : List (List LineStep)) (steps : List LineStep)
-    → script (lines ++ steps ∷ []) ≡ script lines ++ closed_script steps
-unfolding script
-script_more [] steps = append-nil (closed_script steps)
-script_more (line ∷ lines) steps =
-    ap (λ (xs : List LineStep). closed_script line ++ xs) (script_more lines steps)
-    ∙ sym (append_assoc (closed_script line) (script lines) (closed_script steps))
-
-script_none : script [] ≡ []
-unfolding script
-script_none = refl
-
-pub received_none : received_list [] ≡ []
-unfolding received_list received_list_after
-received_none = refl
-
-pub first_more : (p : ℕ) (session : PlainSession) (k : ℕ)
-    → k < length session.phases
-    → script_of_first p session (k + 1) ≡ script_of_first p session k ++ closed_script (line_on p (phase_at session k))
-first_more p session k lt =
-    ap script (map_more (line_on p) session.phases k no_phase lt)
-    ∙ script_more (map (line_on p) (take k session.phases)) (line_on p (phase_at session k))
+use Rattle.legal_runs.proofs.LineLemmas.{no_phase, script_none, received_none, first_more}
 
 count_more : (p : ℕ) (session : PlainSession) (k : ℕ)
     → k < length session.phases
@@ -96,10 +71,6 @@ pub room_left : (p : ℕ) (session : PlainSession) (overruns : List Overrun) (k 
     → line.report.arrived + arrival_count steps ≤ line.most
 room_left p session overruns k line chars r next steps lt are h =
     omega (arith, h.arrived, h.most, count_more p session k lt, count_within p session (k + 1), ap arrival_count are)
-
--- nothing is received before the first phase
-pub none_first : (p : ℕ) (session : PlainSession) → received_list (script_of_first p session 0) ≡ []
-none_first p session = ap received_list script_none ∙ received_none
 
 pub received_first : (p : ℕ) (session : PlainSession) (overruns : List Overrun) (line : LineState)
     (chars : Contents Flagged) (r : Received)
@@ -183,7 +154,7 @@ pub record NextPhase (p : ℕ) (session : PlainSession) (overruns : List Overrun
   pub arrived : line'.report.arrived ≡ line.report.arrived + arrival_count steps
   pub adds : (before : List LineStep)
       → HasDone line before
-      → Adds (received_list before) (received_list (before ++ closed_script steps)) chars.items chars'.items
+      → AddsCharacters (received_list before) (received_list (before ++ closed_script steps)) chars.items chars'.items
   pub spare : line'.most ≤ chars'.spare + line'.handed
   pub none : (before : List LineStep) → HasDone line before → line'.report.overruns.items ≡ line.report.overruns.items
   pub kept : r'.kept.items

@@ -1,8 +1,9 @@
 -- What a replay knows, entry by entry.
-use Rattle.std.proofs.Common.{◌≡◌, ℕ, ◌+◌, ◌^◌, ◌<◌, ◌≤◌, Bool, true, false, List, [], ◌∷◌, ◌++◌, Option, is_some}
+use Rattle.std.proofs.Common.{◌≡◌, ℕ, ◌+◌, ◌<◌, ◌≤◌, Bool, true, false, List, [], ◌∷◌, ◌++◌, Option, is_some}
 use Rattle.std.proofs.Common.{length, refl, sym, ◌∙◌, ap, subst, arith, append_assoc, append-nil, length-append}
 use Rattle.std.specs.Prelude.{sum}
 use Rattle.std.proofs.lemmas.Bool.{false≢true, eqb-true, eq-eqb}
+use Rattle.tty_base.specs.Sizes.{COLUMNS_OF_ENTRY, NUMBER_END}
 use Rattle.tty_calls.specs.declared.journals.Who.{Who}
 use Rattle.tty_calls.specs.declared.journals.Who.TheVariants.{Caller, Flusher, Line, Clock, Session}
 use Rattle.tty_calls.specs.Plain.{PlainCall, PlainEvent, answered, parted, waited, flushed, ticked, line_ended}
@@ -16,15 +17,16 @@ use Rattle.tty_terminal.proofs.StepLaws.{step_does}
 use Rattle.tty_terminal.proofs.OneRun.{one_more}
 use Rattle.journal_check.specs.declared.turns.Turn.{Turn}
 use Rattle.journal_check.specs.declared.replay.Replay.{Replay}
-use Rattle.journal_check.specs.Legal.{flip_on, is_phase_end, IsInPhase}
+use Rattle.legal_runs.specs.Legal.{flip_on, is_phase_end, IsInPhase}
 use Rattle.journal_check.specs.Trying.{Tries}
 use Rattle.journal_check.specs.Verdicts.{IsFine, AreFine, AreFineTo, opening_of}
 use Rattle.journal_check.specs.Scripts.{AreTurns, AreIdle}
-use Rattle.journal_check.specs.Replaying.{IsRunOf, CallStays, Stays, latest_after, Follows}
-use Rattle.journal_check.proofs.PhaseLemmas.{phase-after}
+use Rattle.journal_check.specs.Replaying.{IsLatestRunOf, CallStays, Stays, latest_after, Follows}
+use Rattle.legal_runs.proofs.PhaseLemmas.{phase-after}
 use Rattle.journal_check.proofs.FineLemmas.{Leads-from_fine}
 use Rattle.journal_check.proofs.TurnLemmas.{turns_idle}
 use Rattle.journal_check.proofs.GenerationLemmas.{run_has, flush_stays, run_after, call_stays}
+use Rattle.legal_runs.proofs.EventLemmas.{phase_same}
 
 -- ---- fine entries, one more
 
@@ -187,18 +189,6 @@ phase_more f t who step part caller_ended is = absurd (false≢true is)
 phase_more f t who step part phase_ended is = refl
 phase_more f t who step part (hung_up dropped) is = absurd (false≢true is)
 
-pub phase_same : (event : PlainEvent) (phase : ℕ) → is_phase_end event ≡ false → phase_after event phase ≡ phase
-phase_same (answered a dropped) phase is = refl
-phase_same (parted n) phase is = refl
-phase_same waited phase is = refl
-phase_same (flushed chars) phase is = refl
-phase_same ticked phase is = refl
-phase_same (line_ended n) phase is = refl
-phase_same clock_ended phase is = refl
-phase_same caller_ended phase is = refl
-phase_same phase_ended phase is = absurd (false≢true (sym is))
-phase_same (hung_up dropped) phase is = refl
-
 phase_little : (event : PlainEvent) (phase : ℕ) → phase_after event phase ≤ phase + 1
 phase_little (answered a dropped) phase = omega arith
 phase_little (parted n) phase = omega arith
@@ -215,8 +205,8 @@ phase_little (hung_up dropped) phase = omega arith
 pub next_small : (f : ℕ → ℕ → Option PlainCall) (counts : List ℕ) (t u : Terminal) (e : PlainEntry)
     → Allowed f counts t e
     → u ≡ after f t e
-    → t.phase < 2 ^ 31
-    → u.phase ≤ 2 ^ 31
+    → t.phase < NUMBER_END
+    → u.phase ≤ NUMBER_END
 next_small f counts t u e allowed is small =
     omega
     (arith, ap (λ (v : Terminal). v.phase) is, phase-after f counts t e allowed, phase_little e.event t.phase, small)
@@ -241,7 +231,7 @@ pub record GoesBy (p : ℕ) (session : PlainSession) (r after : Replay) (e : Pla
   pub allowed : IsAllowed (call_at p session) (counts_on p session) r.terminal.terminal e.who e.step e.part e.event
   pub terminal : after.terminal.terminal
       ≡ after_event (call_at p session) r.terminal.terminal e.who e.step e.part e.event
-  pub column : column_in after.terminal.terminal.disc ≤ column_in r.terminal.terminal.disc + 2 ^ 28
+  pub column : column_in after.terminal.terminal.disc ≤ column_in r.terminal.terminal.disc + COLUMNS_OF_ENTRY
   pub latest : after.latest ≡ latest_after e.event e.generation r.latest
   pub names : after.names ≡ r.names
   pub counts : after.counts.items ≡ r.counts.items
@@ -287,8 +277,9 @@ goes_on p session before r now e h by =
         fine = subst (AreFineTo p session (before ++ e ∷ [])) (sym by.terminal)
             (fine_more p session [] (opening_of p session) before t e h.fine fine);
         one = one;
-        run = subst (λ (g : ℕ). IsRunOf (before ++ e ∷ []) now.terminal.terminal.flushed g) (sym by.latest)
-            (subst (λ (v : Terminal). IsRunOf (before ++ e ∷ []) v.flushed (latest_after e.event e.generation r.latest))
+        run = subst (λ (g : ℕ). IsLatestRunOf (before ++ e ∷ []) now.terminal.terminal.flushed g) (sym by.latest)
+            (subst (λ (v : Terminal). IsLatestRunOf (before ++ e ∷ []) v.flushed
+            (latest_after e.event e.generation r.latest))
             (sym by.terminal)
             (run_after f counts (opening_of p session) before t r.latest e leads h.run allowed flushes));
         turns = turns_after p session before r now e (is_phase_end e.event) h by refl;

@@ -15,24 +15,22 @@ use Rattle.tty_terminal.specs.Runs.{chars_of}
 use Rattle.uart_line.specs.Received.{received_list, received_list_after, is_cut}
 use Rattle.uart_line.specs.Received.{window, window_output, closed_script, script}
 use Rattle.uart_line.specs.Offered.{AreShown}
-use Rattle.journal_check.specs.Legal.{phase_at, script_of_first, script_on, is_phase_end, line_ends}
-use Rattle.journal_check.specs.Legal.{line_ends_in, session_events, session_events_in, before_phase}
-use Rattle.journal_check.specs.Legal.{before_line_end, IsOfPhase, AreSeen, IsFinishedFrom}
+use Rattle.legal_runs.specs.Legal.{phase_at, script_of_first, script_on, is_phase_end, line_ends, line_ends_in}
+use Rattle.legal_runs.specs.Legal.{session_events, session_events_in, before_phase, before_line_end, IsOverrunOfPhase}
+use Rattle.legal_runs.specs.Legal.{AreSeen}
+use Rattle.legal_runs.specs.Legal.{IsFinishedFrom}
 use Rattle.journal_check.specs.Receipts.{received_count}
 use Rattle.journal_check.specs.Seen.{phase_starts, line_stops, phase_from, are_between}
 use Rattle.journal_check.proofs.AccountLemmas.{shown_cons, next_at}
-use Rattle.journal_check.proofs.ReceiptLemmas.{first_more}
-use Rattle.journal_check.proofs.Truths.{all_four, nothing_first, nothing_rest}
+use Rattle.legal_runs.proofs.LineLemmas.{first_more}
+use Rattle.legal_runs.proofs.Truths.{all_four, nothing_first, nothing_rest}
+use Rattle.legal_runs.proofs.EventLemmas.{none_before, no_phase_end}
 
 size_cons : (e : PlainEntry) (es : List PlainEntry)
     → length (chars_of (e ∷ es)) ≡ length (chars_in e.event) + length (chars_of es)
 size_cons e es = length-append (chars_in e.event) (chars_of es)
 
 -- ---- where phases begin
-
-pub none_before : (es : List PlainEntry) → before_phase 0 es ≡ []
-none_before [] = refl
-none_before (e ∷ es) = refl
 
 starts_by : (now : ℕ) (es : List PlainEntry) (b : Bool) (k : ℕ)
     → ((j : ℕ)
@@ -72,22 +70,6 @@ one_of clock_ended is = absurd (false≢true (sym is))
 one_of caller_ended is = absurd (false≢true (sym is))
 one_of phase_ended is = absurd (false≢true (sym is))
 one_of (hung_up dropped) is = absurd (false≢true (sym is))
-
-pub no_phase_end : (event : PlainEvent) → session_events event ≡ [] → is_phase_end event ≡ false
-no_phase_end (answered a dropped) none = refl
-no_phase_end (parted n) none = refl
-no_phase_end waited none = refl
-no_phase_end (flushed chars) none = refl
-no_phase_end ticked none = refl
-no_phase_end (line_ended n) none = refl
-no_phase_end clock_ended none = refl
-no_phase_end caller_ended none = refl
-no_phase_end phase_ended none = cc
-no_phase_end (hung_up dropped) none = refl
-
-line_step : (b : Bool) (n : ℕ) (xs ys : List ℕ) → b ≡ true → (if b then xs else ys) ≡ xs
-line_step true n xs ys is = refl
-line_step false n xs ys is = absurd (false≢true is)
 
 -- the first end of a line is in the part that has one
 stop_first : (n : ℕ) (part more : List PlainEntry)
@@ -487,7 +469,7 @@ in_phase p session journal ends starts stops k at knows le begun =
 one_phase : (p : ℕ) (session : PlainSession) (r j : ℕ) (o : Overrun)
     → received_count p session r ≤ o.at
     → o.at < received_count p session (r + 1)
-    → IsOfPhase p session j o
+    → IsOverrunOfPhase p session j o
     → j ≡ r
 one_phase p session r j o least most of =
     elim (cases_lt j r) [
@@ -552,7 +534,7 @@ seen_as_between p session journal ends starts stops capacity i floor k (o ∷ os
             rest.0 third.1,
           )),
       λ h. elim (cases_lt (phase_from k (drop k ends) o.at) (length session.phases)) [
-        | inl lt ↦ (let of : IsOfPhase p session r o = (at.begun, at.ended lt) in
+        | inl lt ↦ (let of : IsOverrunOfPhase p session r o = (at.begun, at.ended lt) in
             all_four (nat_lt r (length ends)) (nat_le (get_or starts r 0) o.seen) (nat_le o.seen (get_or stops r 0))
             (are_between ends starts stops r os)
             (lt-ltb r (length ends) (omega (arith, lt, knows.many)))

@@ -2,6 +2,7 @@
 use Rattle.std.proofs.Common.{◌≡◌, ℕ, zero, suc, Bool, false, ◌+◌, ◌-◌, ◌<◌, ◌≤◌, ◌^◌, List, [], ◌∷◌, Some}
 use Rattle.std.proofs.Common.{true, length, take, take_all, ◌==◌, inl, inr, ne_eqb, sym, ◌∙◌, ap, subst, arith}
 use Rattle.std.proofs.lemmas.Bool.{cases_lt, eqb-false, true_from_ne_false, false≢true}
+use Rattle.tty_base.specs.Sizes.{MOST_SENT, NUMBER_END}
 use Rattle.tty_base.specs.declared.characters.Flagged.{Flagged}
 use Rattle.tty_calls.specs.Plain.{PlainCall}
 use Rattle.tty_terminal.specs.Terminals.{Terminal, caller_at}
@@ -22,9 +23,9 @@ left_leaves t c call = (outcome_keeps t (caller_at t c) (Some call)).left
 -- the numbers that an entry of a call needs, after the call
 pub record LeftSmall (u : Terminal) (callers : ℕ) : Type 0 where
   pub known : length u.callers ≡ callers
-  pub next : (c : ℕ) → (caller_at u c).next < 2 ^ 31
-  pub parts : (c : ℕ) → (caller_at u c).parts < 2 ^ 31
-  pub taken : u.taken < 2 ^ 63 - 2 ^ 32
+  pub next : (c : ℕ) → (caller_at u c).next < NUMBER_END
+  pub parts : (c : ℕ) → (caller_at u c).parts < NUMBER_END
+  pub taken : u.taken < MOST_SENT - 2 ^ 32
 
 pub left_small : (t : Terminal) (c : ℕ) (call : PlainCall)
     → IsSmall t

@@ -2,142 +2,40 @@
 use Rattle.std.proofs.Common.{◌≡◌, inl, inr, ℕ, zero, suc, ◌+◌, ◌-◌, ◌<◌, ◌≤◌, ◌==◌, Bool, true, false, ◌&&◌, ◌||◌}
 use Rattle.std.proofs.Common.{cond, MatchBool, if◌then◌else◌, IsTrue, List, [], ◌∷◌, ◌++◌, Option, None, Some}
 use Rattle.std.proofs.Common.{length, take, drop, map, set, get_or, refl, sym, ◌∙◌, ap, subst, arith, append-nil}
-use Rattle.std.proofs.Common.{length-append, append_assoc, get_or-set_same, get_or-set_other, length-set, ne_eqb}
-use Rattle.std.specs.Prelude.{All, slice_get, option_map, sum_by}
-use Rattle.std.specs.List.{list_any, position_from}
+use Rattle.std.proofs.Common.{length-append, get_or-set_same, get_or-set_other, length-set, ne_eqb}
+use Rattle.std.specs.Prelude.{All, slice_get, option_map}
 use Rattle.std.specs.Str.{bytes_eq}
 use Rattle.std.proofs.lemmas.Bool.{false≢true, eqb-true, eq-eqb, cases_lt, false_from_ne_true, or_left}
 use Rattle.std.proofs.lemmas.List.{get_or_past, take_all, take-append-drop, drop_all}
 use Rattle.std.proofs.lemmas.List.Elements.{filter-append, filter_more, All-nil, All-head}
 use Rattle.std.proofs.lemmas.List.Elements.{All-tail, All-append, All-filter, All-get_or}
-use Rattle.std.proofs.lemmas.List.Folds.{list_any-append}
-use Rattle.std.proofs.lemmas.List.Sums.{sum_by-cons}
 use Rattle.std.proofs.lemmas.Option.{slice_get_within, slice_get-get_or, slice_get_read}
 use Rattle.std.proofs.lemmas.Option.{slice_get_past, get_or_from_slice_get, slice_get-map}
-use Rattle.std.proofs.lemmas.List.Quantifiers.{position-Some}
-use Rattle.std.proofs.lemmas.Iterator.Adapters.{position_from-zero}
 use Rattle.std.proofs.lemmas.Slice.Eq.{bytes_eq-Decides}
+use Rattle.tty_base.specs.Sizes.{MOST_HANDLES}
 use Rattle.tty_calls.specs.declared.sessions.Script.{Script}
 use Rattle.tty_calls.specs.declared.journals.Who.{Who}
-use Rattle.tty_calls.specs.declared.journals.Who.TheVariants.{Caller, Flusher, Line, Clock, Session}
+use Rattle.tty_calls.specs.declared.journals.Who.TheVariants.{Caller}
 use Rattle.tty_calls.specs.Plain.{PlainCall, closes, PlainEvent, handle_of}
 use Rattle.tty_calls.specs.Sessions.{PlainScript, PlainPhase, PlainSession, script_of, scripts_on}
 use Rattle.tty_calls.specs.Sessions.{scripts_over, names_of, number_in, calls_of, call_at}
-use Rattle.tty_calls.specs.Limits.{IsPhaseWithin, IsWithinLimits, call_count}
 use Rattle.journal_check.specs.declared.turns.Turn.{Turn}
 use Rattle.tty_terminal.specs.Runs.{is_of_call}
 use Rattle.journal_check.specs.WellFormed.{IsOfTable, AreOfTable, IsPhaseWellFormed, IsWellFormed}
-use Rattle.journal_check.specs.Legal.{phase_at, name_at, has_script, first_step, is_caller_end, IsInPhase}
-use Rattle.journal_check.specs.Scripts.{no_turn, turn_then, turns_with_next, IsOpen, IsIdle, scripts_for}
+use Rattle.legal_runs.specs.Legal.{phase_at, name_at, has_script, first_step, is_caller_end, IsInPhase}
+use Rattle.journal_check.specs.Scripts.{no_turn, turn_then, turns_with_next, IsTurnOfPhase, IsIdle, scripts_for}
 use Rattle.journal_check.specs.Scripts.{IsTurnBy, AreTurnsAmong, AreTurns, AreIdle, calls_from}
-use Rattle.journal_check.proofs.NameLemmas.{get_append, get_past, same_name, all_distinct}
-use Rattle.journal_check.proofs.NameLemmas.{calls_append, first_next, call_of_phase}
-use Rattle.journal_check.proofs.Truths.{when_true, if_true, if_false}
-
-abbrev is_of : ℕ → PlainScript → Bool
-is_of p s = s.port == p
-
--- ---- scripts by their names
-
-has_append : (xs ys : List PlainScript) (name : Option (List ℕ))
-    → has_script (xs ++ ys) name ≡ (has_script xs name || has_script ys name)
-has_append xs ys None = refl
-has_append xs ys (Some name) = list_any-append (λ s. bytes_eq s.name name) xs ys
-
--- without a script there are no calls
-pub no_calls : (xs : List PlainScript) (name : Option (List ℕ)) → has_script xs name ≡ false → calls_of xs name ≡ []
-no_calls xs None none = refl
-no_calls [] (Some name) none = refl
-no_calls (x ∷ xs) (Some name) none = either (bytes_eq x.name name) refl (no_calls xs (Some name))
-  where
-    either : (b : Bool)
-        → bytes_eq x.name name ≡ b
-        → (has_script xs (Some name) ≡ false → calls_of xs (Some name) ≡ [])
-        → calls_of (x ∷ xs) (Some name) ≡ []
-    either true is rest =
-        absurd (false≢true (sym none ∙ or_left (bytes_eq x.name name) (list_any (λ s. bytes_eq s.name name) xs) is))
-    either false is rest =
-        ap (λ b. (if b then x.calls else []) ++ calls_of xs (Some name)) is
-        ∙ rest (sym (ap (λ b. b || list_any (λ s. bytes_eq s.name name) xs) is) ∙ none)
-
-pub phase_within : (session : PlainSession) (k : ℕ)
-    → IsWithinLimits session
-    → k < length session.phases
-    → IsPhaseWithin session.ports (phase_at session k)
-phase_within session k limits lt = All-get_or (IsPhaseWithin session.ports) session.phases k
-    (record { lines = []; ticks = []; callers = [] }) lt limits.phases
-
--- ---- how many calls there are
-
-calls_few : (p : ℕ) (scripts : List PlainScript) (name : Option (List ℕ))
-    → length (calls_of (scripts_for p scripts) name) ≤ sum_by (λ s. length s.calls) scripts
-calls_few p scripts None = omega arith
-calls_few p [] (Some name) = omega arith
-calls_few p (x ∷ xs) (Some name) =
-    let rest = calls_few p xs (Some name) in
-    let all = sum_by-cons (λ (s : PlainScript). length s.calls) x xs in
-    either (is_of p x) (bytes_eq x.name name) rest all
-  where
-    few : (b : Bool) → length (if b then x.calls else []) ≤ length x.calls
-    few true = omega arith
-    few false = omega arith
-
-    either : (b d : Bool)
-        → length (calls_of (scripts_for p xs) (Some name)) ≤ sum_by (λ s. length s.calls) xs
-        → sum_by (λ s. length s.calls) (x ∷ xs) ≡ length x.calls + sum_by (λ s. length s.calls) xs
-        → length (calls_of (cond b (x ∷ scripts_for p xs) (scripts_for p xs)) (Some name))
-        ≤ sum_by (λ s. length s.calls) (x ∷ xs)
-    either true d rest all =
-        omega (
-          arith,
-          few (bytes_eq x.name name),
-          length-append (if bytes_eq x.name name then x.calls else []) (calls_of (scripts_for p xs) (Some name)),
-        )
-    either false d rest all = omega arith
-
-over_few : (p : ℕ) (phases : List PlainPhase) (name : Option (List ℕ))
-    → length (calls_of (scripts_over p phases) name) ≤ call_count phases
-over_few p [] None = omega arith
-over_few p [] (Some name) = omega arith
-over_few p (x ∷ xs) name =
-    omega (
-      arith,
-      ap (λ (cs : List PlainCall). length cs) (calls_append (scripts_on p x) (scripts_over p xs) name),
-      length-append (calls_of (scripts_on p x) name) (calls_of (scripts_over p xs) name),
-      calls_few p x.callers name,
-      over_few p xs name,
-      sum_by-cons (λ (phase : PlainPhase). sum_by (λ s. length s.calls) phase.callers) x xs,
-    )
-
-over_split : (p : ℕ) (phases : List PlainPhase) (k : ℕ)
-    → scripts_over p phases ≡ scripts_over p (take k phases) ++ scripts_over p (drop k phases)
-over_split p phases zero = refl
-over_split p [] (suc k) = refl
-over_split p (x ∷ xs) (suc k) =
-    ap (λ (ss : List PlainScript). scripts_on p x ++ ss) (over_split p xs k)
-    ∙ sym (append_assoc (scripts_on p x) (scripts_over p (take k xs)) (scripts_over p (drop k xs)))
-
-pub first_few : (p : ℕ) (session : PlainSession) (k c : ℕ) → IsWithinLimits session → first_step p session k c ≤ 65536
-first_few p session k c limits =
-    let name = name_at p session c in
-    let front = scripts_over p (take k session.phases) in
-    let rest = scripts_over p (drop k session.phases) in
-    let all : scripts_over p session.phases ≡ front ++ rest = over_split p session.phases k in
-    omega (
-      arith,
-      over_few p session.phases name,
-      limits.few_calls,
-      ap (λ (ss : List PlainScript). length (calls_of ss name)) all,
-      ap (λ (cs : List PlainCall). length cs) (calls_append front rest name),
-      length-append (calls_of front name) (calls_of rest name),
-    )
+use Rattle.legal_runs.proofs.NameLemmas.{get_append, get_past, same_name, all_distinct, calls_append, first_next}
+use Rattle.legal_runs.proofs.NameLemmas.{call_of_phase}
+use Rattle.legal_runs.proofs.Truths.{when_true, if_true, if_false}
+use Rattle.legal_runs.proofs.ScriptLemmas.{is_of, has_append, no_calls, nowhere, at_number, first_stays}
 
 -- ---- turns
 
 -- after the phase of a turn its caller goes on with the step behind it
 pub open_next : (p : ℕ) (session : PlainSession) (k c : ℕ) (t : Turn)
     → k < length session.phases
-    → IsOpen p session k (scripts_on p (phase_at session k)) c t
+    → IsTurnOfPhase p session k (scripts_on p (phase_at session k)) c t
     → t.first + t.steps ≡ first_step p session (k + 1) c
 open_next p session k c t lt o = omega (arith, o.first, o.steps, first_next p session k c lt)
 
@@ -160,42 +58,6 @@ skips p session k i turns s at other among =
       each = λ c within. subst (λ (xs : List PlainScript). IsTurnBy p session k xs c (get_or turns c no_turn))
           (sym more) (among.each c within);
     }
-
--- a number is the place of its name, where it is there
-place_from : (name : List ℕ) (i : ℕ) (names : List (List ℕ)) (c : ℕ)
-    → slice_get names c ≡ Some name
-    → position_from (bytes_eq name) i names ≡ None
-    → ⊥
-place_from name i [] c at none = cc
-place_from name i (n ∷ ns) c at none =
-    either (bytes_eq name n) refl c at (λ d there. place_from name (i + 1) ns d there)
-  where
-    either : (b : Bool)
-        → bytes_eq name n ≡ b
-        → (d : ℕ)
-        → slice_get (n ∷ ns) d ≡ Some name
-        → ((e : ℕ) → slice_get ns e ≡ Some name → position_from (bytes_eq name) (i + 1) ns ≡ None → ⊥)
-        → ⊥
-    either true is d there later = (let found : Some i ≡ None =
-        sym (ap (λ b. cond b (Some i) (position_from (bytes_eq name) (i + 1) ns)) is) ∙ none in
-        cc)
-    either false other zero here later =
-        (let same : name ≡ n = cc in false≢true (sym other ∙ (bytes_eq-Decides name n).1 same))
-    either false other (suc d) there later =
-        later d there (sym (ap (λ b. cond b (Some i) (position_from (bytes_eq name) (i + 1) ns)) other) ∙ none)
-
-nowhere : (names : List (List ℕ)) (name : List ℕ) (c : ℕ)
-    → number_in names name ≡ None
-    → slice_get names c ≡ Some name
-    → ⊥
-nowhere names name c none at = place_from name 0 names c at (sym (position_from-zero (bytes_eq name) names) ∙ none)
-
-pub at_number : (names : List (List ℕ)) (name : List ℕ) (c : ℕ)
-    → number_in names name ≡ Some c
-    → slice_get names c ≡ Some name
-at_number names name c is =
-    let place = position-Some (bytes_eq name) names c [] is in
-    slice_get-get_or names c [] place.0 ∙ ap (λ n. Some n) (sym ((bytes_eq-Decides name (get_or names c [])).0 place.1))
 
 or_false : (a b : Bool) → b ≡ false → (a || b) ≡ a
 or_false true b h = refl
@@ -254,8 +116,8 @@ others_turn p session k xs s c t other h =
     (further (has_script xs (name_at p session c)) h)
   where
     further : (b : Bool)
-        → MatchBool b (IsOpen p session k xs c t) (IsIdle p session k c t)
-        → MatchBool b (IsOpen p session k (xs ++ s ∷ []) c t) (IsIdle p session k c t)
+        → MatchBool b (IsTurnOfPhase p session k xs c t) (IsIdle p session k c t)
+        → MatchBool b (IsTurnOfPhase p session k (xs ++ s ∷ []) c t) (IsIdle p session k c t)
     further true o = record {
       begun = o.begun;
       first = o.first;
@@ -268,9 +130,9 @@ others_turn p session k xs s c t other h =
 own_turn : (p : ℕ) (session : PlainSession) (k i : ℕ) (s : PlainScript) (c : ℕ) (t : Turn) (b : Bool)
     → has_script (scripts_for p (take i (phase_at session k).callers)) (name_at p session c) ≡ b
     → name_at p session c ≡ Some s.name
-    → MatchBool b (IsOpen p session k (scripts_for p (take i (phase_at session k).callers)) c t)
+    → MatchBool b (IsTurnOfPhase p session k (scripts_for p (take i (phase_at session k).callers)) c t)
     (IsIdle p session k c t)
-    → IsOpen p session k (scripts_for p (take i (phase_at session k).callers) ++ s ∷ []) c
+    → IsTurnOfPhase p session k (scripts_for p (take i (phase_at session k).callers) ++ s ∷ []) c
     (turn_then t k (length s.calls) i)
 own_turn p session k i s c t b is named h = either b is h
   where
@@ -287,13 +149,13 @@ own_turn p session k i s c t b is named h = either b is h
 
     either : (b : Bool)
         → has_script xs (name_at p session c) ≡ b
-        → MatchBool b (IsOpen p session k xs c t) (IsIdle p session k c t)
-        → IsOpen p session k (xs ++ s ∷ []) c (turn_then t k (length s.calls) i)
+        → MatchBool b (IsTurnOfPhase p session k xs c t) (IsIdle p session k c t)
+        → IsTurnOfPhase p session k (xs ++ s ∷ []) c (turn_then t k (length s.calls) i)
     either true is o =
         let there : turn_then t k (length s.calls) i
         ≡ record { begun = t.begun; first = t.first; steps = t.steps + length s.calls; script = t.script } =
         if_true (t.begun == k + 1) _ _ (eq-eqb t.begun (k + 1) o.begun) in
-        subst (IsOpen p session k (xs ++ s ∷ []) c) (sym there) (record {
+        subst (IsTurnOfPhase p session k (xs ++ s ∷ []) c) (sym there) (record {
           begun = o.begun;
           first = o.first;
           steps = omega (arith, o.steps, many);
@@ -304,7 +166,7 @@ own_turn p session k i s c t b is named h = either b is h
         ≡ record { begun = k + 1; first = t.first + t.steps; steps = length s.calls; script = i } =
         if_false (t.begun == k + 1) _ _ (ne_eqb t.begun (k + 1) (λ e. omega (arith, o.begun, e))) in
         let nothing : calls_of xs (name_at p session c) ≡ [] = no_calls xs (name_at p session c) is in
-        subst (IsOpen p session k (xs ++ s ∷ []) c) (sym there) (record {
+        subst (IsTurnOfPhase p session k (xs ++ s ∷ []) c) (sym there) (record {
           begun = refl;
           first = o.first;
           steps = omega (arith, many, ap (λ (cs : List PlainCall). length cs) nothing);
@@ -409,31 +271,9 @@ nobody_past p session k c past =
     ap (λ (ss : List PlainScript). has_script (scripts_for p ss) (name_at p session c)) (past_none session k past)
     ∙ nobody (name_at p session c)
 
-pub past_turns : (p : ℕ) (session : PlainSession) (k : ℕ) (turns : List Turn)
-    → length session.phases ≤ k
-    → AreIdle p session k turns
-    → AreTurns p session k turns
-past_turns p session k turns past idle = record {
-  many = idle.many;
-  each = λ c within. same_turn (has_script (scripts_on p (phase_at session k)) (name_at p session c)) false _ _
-      (nobody_past p session k c past) (idle.each c within);
-}
-
--- a caller without a script has the same step next in the phase after it
-pub first_stays : (p : ℕ) (session : PlainSession) (k c : ℕ)
-    → k < length session.phases
-    → has_script (scripts_on p (phase_at session k)) (name_at p session c) ≡ false
-    → first_step p session (k + 1) c ≡ first_step p session k c
-first_stays p session k c lt none =
-    omega (
-      arith,
-      first_next p session k c lt,
-      ap (λ (cs : List PlainCall). length cs) (no_calls (scripts_on p (phase_at session k)) (name_at p session c) none),
-    )
-
 idle_after : (p : ℕ) (session : PlainSession) (k c : ℕ) (t : Turn) (b : Bool)
     → has_script (scripts_on p (phase_at session k)) (name_at p session c) ≡ b
-    → MatchBool b (IsOpen p session k (scripts_on p (phase_at session k)) c t) (IsIdle p session k c t)
+    → MatchBool b (IsTurnOfPhase p session k (scripts_on p (phase_at session k)) c t) (IsIdle p session k c t)
     → IsIdle p session (k + 1) c t
 idle_after p session k c t true is o =
     elim (cases_lt k (length session.phases)) [
@@ -459,12 +299,12 @@ turns_idle p session k turns are = record {
 
 pub record IsTurnOf (p : ℕ) (session : PlainSession) (k c : ℕ) (t : Turn) : Type 0 where
   pub has : has_script (scripts_on p (phase_at session k)) (name_at p session c) ≡ true
-  pub opened_here : IsOpen p session k (scripts_on p (phase_at session k)) c t
+  pub opened_here : IsTurnOfPhase p session k (scripts_on p (phase_at session k)) c t
   pub within : k < length session.phases
 
 begun_turn : (p : ℕ) (session : PlainSession) (k c : ℕ) (t : Turn) (b : Bool)
     → has_script (scripts_on p (phase_at session k)) (name_at p session c) ≡ b
-    → MatchBool b (IsOpen p session k (scripts_on p (phase_at session k)) c t) (IsIdle p session k c t)
+    → MatchBool b (IsTurnOfPhase p session k (scripts_on p (phase_at session k)) c t) (IsIdle p session k c t)
     → t.begun ≡ k + 1
     → IsTurnOf p session k c t
 begun_turn p session k c t true is o begun =
@@ -487,23 +327,11 @@ turn_of p session k c turns t are at begun =
     (are.each c within)) begun
 
 not_begun : (p : ℕ) (session : PlainSession) (k c : ℕ) (t : Turn) (b : Bool)
-    → MatchBool b (IsOpen p session k (scripts_on p (phase_at session k)) c t) (IsIdle p session k c t)
+    → MatchBool b (IsTurnOfPhase p session k (scripts_on p (phase_at session k)) c t) (IsIdle p session k c t)
     → (t.begun ≡ k + 1 → ⊥)
     → b ≡ false
 not_begun p session k c t true o differs = absurd (differs o.begun)
 not_begun p session k c t false o differs = refl
-
--- a caller whose turn is not of this phase has no script in it
-pub no_turn_of : (p : ℕ) (session : PlainSession) (k c : ℕ) (turns : List Turn) (t : Turn)
-    → AreTurns p session k turns
-    → slice_get turns c ≡ Some t
-    → (t.begun ≡ k + 1 → ⊥)
-    → has_script (scripts_on p (phase_at session k)) (name_at p session c) ≡ false
-no_turn_of p session k c turns t are at differs =
-    let within : c < length turns = slice_get_within turns c t at in
-    not_begun p session k c t (has_script (scripts_on p (phase_at session k)) (name_at p session c))
-    (subst (IsTurnBy p session k (scripts_on p (phase_at session k)) c) (get_or_from_slice_get turns c t no_turn at)
-    (are.each c within)) differs
 
 -- who is no caller of the port has none either
 pub no_caller : (p : ℕ) (session : PlainSession) (k c : ℕ) (turns : List Turn)
@@ -543,24 +371,6 @@ in_phase_by_turn p session k c turns t who step event r are by at begun calls en
           (λ of. (let past = h.2 of in omega (arith, past, first, steps))),
     )
 
--- who has no script in a phase has no entry in it
-pub not_in_phase : (p : ℕ) (session : PlainSession) (k c : ℕ) (who : Who) (step : ℕ) (event : PlainEvent)
-    → who ≡ Caller c
-    → has_script (scripts_on p (phase_at session k)) (name_at p session c) ≡ false
-    → IsInPhase p session k who step event
-    → ⊥
-not_in_phase p session k c who step event by none h =
-    let there = subst (λ (w : Who). IsInPhase p session k w step event) by h in false≢true (sym none ∙ there.0)
-
-pub others_in_phase : (p : ℕ) (session : PlainSession) (k : ℕ) (who : Who) (step : ℕ) (event : PlainEvent)
-    → ((c : ℕ) → who ≡ Caller c → ⊥)
-    → IsInPhase p session k who step event
-others_in_phase p session k (Caller c) step event other = absurd (other c refl)
-others_in_phase p session k Flusher step event other = tt
-others_in_phase p session k Line step event other = tt
-others_in_phase p session k Clock step event other = tt
-others_in_phase p session k Session step event other = tt
-
 -- ---- the calls of a turn, as they stand in the session
 
 for_parts : (p : ℕ) (ss : List PlainScript) (i : ℕ)
@@ -569,7 +379,7 @@ for_parts p ss i = ap (scripts_for p) (sym (take-append-drop i ss)) ∙ filter-a
 
 -- from the turn's place on stand all of them
 all_from : (p : ℕ) (session : PlainSession) (k c : ℕ) (t : Turn) (name : List ℕ)
-    → IsOpen p session k (scripts_on p (phase_at session k)) c t
+    → IsTurnOfPhase p session k (scripts_on p (phase_at session k)) c t
     → name_at p session c ≡ Some name
     → calls_of (scripts_on p (phase_at session k)) (name_at p session c)
     ≡ calls_from p (phase_at session k).callers t.script name
@@ -583,7 +393,7 @@ all_from p session k c t name o named =
 -- there is one for each step of the turn
 pub step_there : (p : ℕ) (session : PlainSession) (k c : ℕ) (t : Turn) (step : ℕ) (name : List ℕ)
     (scripts : List PlainScript)
-    → IsOpen p session k (scripts_on p (phase_at session k)) c t
+    → IsTurnOfPhase p session k (scripts_on p (phase_at session k)) c t
     → name_at p session c ≡ Some name
     → scripts ≡ (phase_at session k).callers
     → t.first ≤ step
@@ -601,7 +411,7 @@ step_there p session k c t step name scripts o named are first within =
 pub call_there : (p : ℕ) (session : PlainSession) (k c : ℕ) (t : Turn) (step : ℕ) (name : List ℕ)
     (scripts : List PlainScript) (call : PlainCall)
     → k < length session.phases
-    → IsOpen p session k (scripts_on p (phase_at session k)) c t
+    → IsTurnOfPhase p session k (scripts_on p (phase_at session k)) c t
     → name_at p session c ≡ Some name
     → scripts ≡ (phase_at session k).callers
     → slice_get (calls_from p scripts t.script name) (step - t.first) ≡ Some call
@@ -777,7 +587,7 @@ skipped_turns p session k i turns after scripts script are script_is place other
 
 turn_by : (p : ℕ) (session : PlainSession) (k c : ℕ) (t : Turn) (b : Bool)
     → has_script (scripts_on p (phase_at session k)) (name_at p session c) ≡ b
-    → MatchBool b (IsOpen p session k (scripts_on p (phase_at session k)) c t) (IsIdle p session k c t)
+    → MatchBool b (IsTurnOfPhase p session k (scripts_on p (phase_at session k)) c t) (IsIdle p session k c t)
     → b ≡ true
     → IsTurnOf p session k c t
 turn_by p session k c t true is o there = begun_turn p session k c t true is o o.begun
@@ -834,7 +644,7 @@ over_good p (x ∷ xs) h =
 pub table_call : (p : ℕ) (session : PlainSession) (c step : ℕ) (call : PlainCall)
     → IsWellFormed session
     → call_at p session c step ≡ Some call
-    → handle_of call < 32
+    → handle_of call < MOST_HANDLES
 table_call p session c step call formed at =
     let calls = calls_of (scripts_over p session.phases) (name_at p session c) in
     subst IsOfTable (get_or_from_slice_get calls step call call at)

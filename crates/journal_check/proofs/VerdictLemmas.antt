@@ -8,9 +8,10 @@ use Rattle.tty_calls.specs.Plain.{PlainEntry}
 use Rattle.tty_calls.specs.Sessions.{PlainSession, call_at}
 use Rattle.tty_terminal.specs.Terminals.{Terminal}
 use Rattle.tty_terminal.specs.Steps.{after}
-use Rattle.journal_check.specs.Legal.{IsAccounted, IsLegalOn}
-use Rattle.journal_check.specs.Verdicts.{IsFine, AreFine, AreFineTo, opening_of, HasNoWrong}
-use Rattle.journal_check.specs.Verdicts.{IsFirstWrong, AreLegal, FirstIsWrong, FirstIsNotLegal, Fits}
+use Rattle.legal_runs.specs.Legal.{IsAccounted, IsLegalOn}
+use Rattle.journal_check.specs.Verdicts.{IsFine, AreFine, AreFineTo, opening_of, HasNoWrong, IsFirstWrong, FirstIsWrong}
+use Rattle.journal_check.specs.Verdicts.{FirstIsNotLegal, VerdictFits}
+use Rattle.legal_runs.specs.Ports.{AreLegal}
 use Rattle.journal_check.specs.declared.verdicts.Verdict.{Verdict}
 use Rattle.journal_check.specs.declared.verdicts.Verdict.TheVariants.{Legal, Wrong, Account}
 use Rattle.journal_check.proofs.FineLemmas.{AreFine-from_run, Leads-from_fine}
@@ -201,8 +202,8 @@ account_and_account : (session : PlainSession) (runs : List PortRun) (p q : ℕ)
 account_and_account session runs p q first second less = first.not_legal (second.before p less first.run first.is_run)
 
 pub one_verdict : (session : PlainSession) (runs : List PortRun) (v w : Verdict)
-    → Fits session runs v
-    → Fits session runs w
+    → VerdictFits session runs v
+    → VerdictFits session runs w
     → v ≡ w
 one_verdict session runs Legal Legal first second = refl
 one_verdict session runs Legal (Wrong q m) first second = absurd (legal_not_wrong session runs q m first second)

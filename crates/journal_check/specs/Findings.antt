@@ -6,13 +6,14 @@ use Rattle.tty_calls.specs.Sessions.{PlainSession}
 use Rattle.tty_terminal.specs.Runs.{chars_of}
 use Rattle.uart_line.specs.Received.{received_list, lost_count}
 use Rattle.uart_line.specs.Offered.{kept_list}
-use Rattle.journal_check.specs.Legal.{script_on, IsFinished, IsLegalOn}
-use Rattle.journal_check.specs.Verdicts.{HasNoWrong, IsFirstWrong, IsLegalAt}
+use Rattle.legal_runs.specs.Legal.{script_on, IsFinished, IsLegalOn}
+use Rattle.journal_check.specs.Verdicts.{HasNoWrong, IsFirstWrong}
+use Rattle.legal_runs.specs.Ports.{IsLegalAt}
 use Rattle.journal_check.specs.declared.checking.Finding.{Finding}
 use Rattle.journal_check.specs.declared.checking.Finding.TheVariants.{Legal, Wrong, Account}
 
 -- the account of a port without what the overruns have seen, where they are shown at a full buffer
-pub record IsKept (p : ℕ) (session : PlainSession) (run : PortRun) : Type 0 where
+pub record IsAccountKept (p : ℕ) (session : PlainSession) (run : PortRun) : Type 0 where
   pub arrived : run.line.arrived ≡ arrival_count (script_on p session)
   pub fifo_lost : run.line.fifo_lost ≡ lost_count (script_on p session)
   pub sent : run.line.sent ≡ length (kept_list (received_list (script_on p session)) run.line.overruns.items)

@@ -1,13 +1,10 @@
 pub mod Accounts
 pub mod Findings
 pub mod Finishing
-pub mod Legal
-pub mod Phases
 pub mod Receipts
 pub mod Replaying
 pub mod Scripts
 pub mod Seen
-pub mod Short
 pub mod Trying
 pub mod Verdicts
 pub mod WellFormed

@@ -9,7 +9,7 @@ use Rattle.tty_calls.specs.Limits.{character_count}
 use Rattle.uart_line.specs.LineState.{LineState, HasDone}
 use Rattle.uart_line.specs.Received.{received_list, lost_count}
 use Rattle.journal_check.specs.declared.lines.Received.{Received}
-use Rattle.journal_check.specs.Legal.{script_of_first, script_on}
+use Rattle.legal_runs.specs.Legal.{script_of_first, script_on}
 use Rattle.journal_check.specs.Accounts.{kept_from}
 
 -- how many characters were received in the first phases, and how many of these are no overruns

@@ -1,6 +1,7 @@
 -- What is kept of a journal while it is replayed.
 use Rattle.std.specs.Prelude.{◌≡◌, ℕ, ◌*◌, ◌^◌, ◌<◌, ◌≤◌, true, false, List}
 use Rattle.std.specs.Prelude.{◌∷◌, ◌++◌, Option, None, Some, is_some, length}
+use Rattle.tty_base.specs.Sizes.{COLUMNS_OF_ENTRY}
 use Rattle.tty_calls.specs.declared.journals.Who.{Who}
 use Rattle.tty_calls.specs.declared.journals.Who.TheVariants.{Caller, Flusher, Line, Clock, Session}
 use Rattle.tty_calls.specs.Plain.{PlainEvent, answered, parted, waited, flushed, ticked, line_ended}
@@ -11,7 +12,7 @@ use Rattle.tty_terminal.specs.declared.callers.Piece.{Piece}
 use Rattle.tty_terminal.specs.Terminals.{Terminal, caller_at}
 use Rattle.tty_terminal.specs.Runs.{is_flush, RunHas, OneGeneration}
 use Rattle.journal_check.specs.declared.replay.Replay.{Replay}
-use Rattle.journal_check.specs.Legal.{flip_on}
+use Rattle.legal_runs.specs.Legal.{flip_on}
 use Rattle.journal_check.specs.Verdicts.{AreFineTo}
 use Rattle.journal_check.specs.WellFormed.{IsWellFormed}
 use Rattle.journal_check.specs.Trying.{IsSmall}
@@ -28,9 +29,9 @@ pub record HasPiece (es : List PlainEntry) (run generation : ℕ) : Type 0 where
   pub in_generation : piece.generation ≡ generation
 
 -- the generation of the latest flush run among these entries
-abbrev pub IsRunOf : List PlainEntry → Option Piece → ℕ → Type 0
-IsRunOf es None generation = Unit {0}
-IsRunOf es (Some piece) generation = RunHas piece.run generation es × HasPiece es piece.run generation
+abbrev pub IsLatestRunOf : List PlainEntry → Option Piece → ℕ → Type 0
+IsLatestRunOf es None generation = Unit {0}
+IsLatestRunOf es (Some piece) generation = RunHas piece.run generation es × HasPiece es piece.run generation
 
 -- a call of which a part was taken, and which has not waited since, goes on in the generation of its parts
 abbrev pub CallStays : Terminal → Who → ℕ → Type 0
@@ -67,7 +68,7 @@ latest_after phase_ended generation latest = latest
 latest_after (hung_up dropped) generation latest = latest
 
 -- what an entry needs to be judged
-pub record IsReady (p : ℕ) (session : PlainSession) (r : Replay) : Type 0 where
+pub record CanBeJudged (p : ℕ) (session : PlainSession) (r : Replay) : Type 0 where
   pub formed : IsWellFormed session
   pub small : IsSmall r.terminal.terminal
   pub turns : AreTurns p session r.terminal.terminal.phase r.turns.items
@@ -79,10 +80,10 @@ pub record IsReady (p : ℕ) (session : PlainSession) (r : Replay) : Type 0 wher
 pub record Follows (p : ℕ) (session : PlainSession) (before : List PlainEntry) (r : Replay) : Type 0 where
   pub fine : AreFineTo p session before r.terminal.terminal
   pub one : OneGeneration before
-  pub run : IsRunOf before r.terminal.terminal.flushed r.latest
+  pub run : IsLatestRunOf before r.terminal.terminal.flushed r.latest
   pub turns : AreTurns p session r.terminal.terminal.phase r.turns.items
   pub names : r.names ≡ names_of (scripts_over p session.phases)
   pub counts : r.counts.items ≡ counts_on p session
   pub many : length r.turns.items ≡ length r.terminal.terminal.callers
-  pub column : column_in r.terminal.terminal.disc ≤ 2 ^ 28 * length before
+  pub column : column_in r.terminal.terminal.disc ≤ COLUMNS_OF_ENTRY * length before
   pub flip : flip_on p session < 2 ^ 32

@@ -4,7 +4,7 @@ use Rattle.std.specs.Prelude.{if◌then◌else◌, filter, length, take, drop, s
 use Rattle.tty_calls.specs.Plain.{PlainCall}
 use Rattle.tty_calls.specs.Sessions.{PlainScript, PlainSession, scripts_over, names_of, calls_of}
 use Rattle.journal_check.specs.declared.turns.Turn.{Turn}
-use Rattle.journal_check.specs.Legal.{phase_at, name_at, has_script, first_step}
+use Rattle.legal_runs.specs.Legal.{phase_at, name_at, has_script, first_step}
 
 abbrev pub no_turn : Turn
 no_turn = record { begun = 0; first = 0; steps = 0; script = 0 }
@@ -27,7 +27,7 @@ scripts_for p scripts = filter (λ s. s.port == p) scripts
 
 -- the caller's turn is of this phase, and has its calls among these scripts of the port, of which none stands before
 -- the turn's place
-pub record IsOpen (p : ℕ) (session : PlainSession) (k : ℕ) (scripts : List PlainScript) (c : ℕ)
+pub record IsTurnOfPhase (p : ℕ) (session : PlainSession) (k : ℕ) (scripts : List PlainScript) (c : ℕ)
     (t : Turn) : Type 0 where
   pub begun : t.begun ≡ k + 1
   pub first : t.first ≡ first_step p session k c
@@ -42,7 +42,8 @@ pub record IsIdle (p : ℕ) (session : PlainSession) (k c : ℕ) (t : Turn) : Ty
 -- a caller's turn is of phase k exactly where it has a script among these of the port
 abbrev pub IsTurnBy : ℕ → PlainSession → ℕ → List PlainScript → ℕ → Turn → Type 0
 IsTurnBy p session k scripts c t =
-    MatchBool (has_script scripts (name_at p session c)) (IsOpen p session k scripts c t) (IsIdle p session k c t)
+    MatchBool (has_script scripts (name_at p session c)) (IsTurnOfPhase p session k scripts c t)
+    (IsIdle p session k c t)
 
 -- the turns where these are the first scripts of the phase
 pub record AreTurnsAmong (p : ℕ) (session : PlainSession) (k : ℕ) (scripts : List PlainScript)

@@ -3,7 +3,7 @@ use Rattle.std.specs.Prelude.{ℕ, ◌+◌, ◌==◌, ◌&&◌, nat_lt, nat_le, 
 use Rattle.std.specs.Prelude.{[], ◌∷◌, if◌then◌else◌, length, drop, slice_index}
 use Rattle.tty_base.specs.declared.lines.Overrun.{Overrun}
 use Rattle.tty_calls.specs.Plain.{PlainEntry, chars_in}
-use Rattle.journal_check.specs.Legal.{is_phase_end, line_ends}
+use Rattle.legal_runs.specs.Legal.{is_phase_end, line_ends}
 
 -- how many characters were taken before each later phase, where so many were before these entries
 abbrev pub phase_starts : ℕ → List PlainEntry → List ℕ

@@ -1,5 +1,6 @@
 -- What it is to try an entry, or a part of one, on a terminal.
 use Rattle.std.specs.Prelude.{◌≡◌, ℕ, Bool, MatchBool, is_some, ◌&&◌, ◌+◌, ◌-◌, ◌<◌, ◌≤◌, ◌^◌, false}
+use Rattle.tty_base.specs.Sizes.{MOST_HANDLES, MOST_SENT, NUMBER_END}
 use Rattle.tty_calls.specs.Plain.{PlainCall, PlainAnswer, handle_of}
 use Rattle.tty_calls.specs.Limits.{byte_count}
 use Rattle.ldisc_switch.specs.Disciplines.{column_in}
@@ -13,19 +14,19 @@ Tries P there u made = MatchBool made (P × (u ≡ there)) (P → ⊥)
 
 -- numbers so small that one more entry overflows none
 pub record IsSmall (t : Terminal) : Type 0 where
-  pub tick : t.tick < 2 ^ 31
-  pub generation : t.generation < 2 ^ 31
-  pub phase : t.phase < 2 ^ 31
-  pub taken : t.taken < 2 ^ 63 - 2 ^ 32
+  pub tick : t.tick < NUMBER_END
+  pub generation : t.generation < NUMBER_END
+  pub phase : t.phase < NUMBER_END
+  pub taken : t.taken < MOST_SENT - 2 ^ 32
   pub capacity : t.capacity < 2 ^ 32
   pub within : t.sent ≤ t.taken + t.capacity
-  pub next : (c : ℕ) → (caller_at t c).next < 2 ^ 31
-  pub parts : (c : ℕ) → (caller_at t c).parts < 2 ^ 31
+  pub next : (c : ℕ) → (caller_at t c).next < NUMBER_END
+  pub parts : (c : ℕ) → (caller_at t c).parts < NUMBER_END
   pub column : column_in t.disc < 2 ^ 61
 
 -- a call by a handle of the table, whose bytes a number of 32 bits counts
 pub record IsSmallCall (call : PlainCall) : Type 0 where
-  pub number : handle_of call < 32
+  pub number : handle_of call < MOST_HANDLES
   pub bytes : byte_count call < 2 ^ 32
 
 -- a call is answered so, in a phase with so many callers, where so many characters are dropped with it

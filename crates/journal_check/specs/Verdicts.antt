@@ -1,19 +1,21 @@
 -- What can be said of the runs of a session: that all are legal, which port has the first wrong entry, or which is
 -- the first that is not legal although no entry is wrong.
-use Rattle.std.specs.Prelude.{◌≡◌, ℕ, ◌<◌, ◌^◌, List, [], ◌∷◌, ◌++◌, Some, length, slice_get, sum}
+use Rattle.std.specs.Prelude.{◌≡◌, ℕ, ◌<◌, List, [], ◌∷◌, ◌++◌, Some, length, slice_get, sum}
+use Rattle.tty_base.specs.Sizes.{NUMBER_END}
 use Rattle.tty_calls.specs.declared.journals.PortRun.{PortRun}
 use Rattle.tty_calls.specs.Plain.{PlainEntry}
 use Rattle.tty_calls.specs.Sessions.{PlainSession, call_at, counts_on}
 use Rattle.tty_terminal.specs.Terminals.{Terminal, opening}
 use Rattle.tty_terminal.specs.Steps.{Allowed, after}
 use Rattle.tty_terminal.specs.Runs.{OneGeneration}
-use Rattle.journal_check.specs.Legal.{flip_on, IsInPhase, IsLegalOn}
+use Rattle.legal_runs.specs.Legal.{flip_on, IsInPhase, IsLegalOn}
 use Rattle.journal_check.specs.declared.verdicts.Verdict.{Verdict}
 use Rattle.journal_check.specs.declared.verdicts.Verdict.TheVariants.{Legal, Wrong, Account}
+use Rattle.legal_runs.specs.Ports.{OfRun, IsLegalAt, AreLegal}
 
 -- a journal of fewer than 2^31 entries, so that a number of 32 bits counts them, and each number that they raise by one
 abbrev pub IsCountable : PortRun → Type 0
-IsCountable run = length run.journal.items < 2 ^ 31
+IsCountable run = length run.journal.items < NUMBER_END
 
 -- An entry is fine after these entries, which lead to this terminal: it is a step of the terminal, it leaves each
 -- flush run and each call between its waits in one generation, and it is of its phase. It is wrong where one of these
@@ -54,19 +56,8 @@ pub record IsFirstWrong (p : ℕ) (session : PlainSession) (journal : List Plain
 
 -- ---- all ports of a session
 
--- a fact of the run of a port; a port that has none has it
-abbrev pub OfRun : List PortRun → ℕ → (PortRun → Type 0) → Type 0
-OfRun runs p P = (run : PortRun) → slice_get runs p ≡ Some run → P run
-
-abbrev pub IsLegalAt : PlainSession → List PortRun → ℕ → Type 0
-IsLegalAt session runs p = OfRun runs p (IsLegalOn p session)
-
 abbrev pub HasNoWrongAt : PlainSession → List PortRun → ℕ → Type 0
 HasNoWrongAt session runs p = OfRun runs p (λ run. HasNoWrong p session run.journal.items)
-
--- each port's run is legal
-pub record AreLegal (session : PlainSession) (runs : List PortRun) : Type 0 where
-  pub each : (p : ℕ) → IsLegalAt session runs p
 
 -- the port with the first wrong entry, and that entry's place
 pub record FirstIsWrong (session : PlainSession) (runs : List PortRun) (p n : ℕ) : Type 0 where
@@ -84,7 +75,7 @@ pub record FirstIsNotLegal (session : PlainSession) (runs : List PortRun) (p : �
   pub not_legal : ¬ (IsLegalOn p session run)
 
 -- what a verdict says of a session's runs
-abbrev pub Fits : PlainSession → List PortRun → Verdict → Type 0
-Fits session runs Legal = AreLegal session runs
-Fits session runs (Wrong port entry) = FirstIsWrong session runs port entry
-Fits session runs (Account port) = FirstIsNotLegal session runs port
+abbrev pub VerdictFits : PlainSession → List PortRun → Verdict → Type 0
+VerdictFits session runs Legal = AreLegal session runs
+VerdictFits session runs (Wrong port entry) = FirstIsWrong session runs port entry
+VerdictFits session runs (Account port) = FirstIsNotLegal session runs port

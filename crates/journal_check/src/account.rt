@@ -1,13 +1,13 @@
 //! The account of a port: what its journal and its line report owe beside entries that are fine.
 
-ghost use Rattle.std.specs.Prelude.{◌≡◌, ◌↔◌, ◌<◌, ◌≤◌, IsTrue, IfOk, length};
+ghost use Rattle.std.specs.Prelude.{◌≡◌, ◌↔◌, ◌<◌, IsTrue, IfOk};
 ghost use Rattle.tty_calls.specs.Sessions.{session_of};
 ghost use Rattle.uart_line.specs.Offered.{AreShown};
 ghost use Rattle.journal_check.specs.WellFormed.{IsWellFormed};
-ghost use Rattle.journal_check.specs.Legal.{flip_on, IsFinished, AreSeen, IsAccounted};
+ghost use Rattle.legal_runs.specs.Legal.{flip_on, AreSeen, IsAccounted};
 ghost use Rattle.journal_check.specs.Verdicts.{HasNoWrong};
 ghost use Rattle.journal_check.specs.Receipts.{IsReceived};
-ghost use Rattle.journal_check.specs.Findings.{IsKept};
+ghost use Rattle.journal_check.specs.Findings.{IsAccountKept};
 
 use crate::characters::are_chars_of;
 use crate::finishing::goes_well;
@@ -34,7 +34,7 @@ fn is_kept(session: &Session, port: usize, run: &PortRun, received: &Received) -
     requires received { IsReceived port (session_of session.now) run.now.line.overruns.items received.now }
     requires shown { AreShown (flip_on port (session_of session.now)) 0 0 run.now.line.overruns.items }
     requires no_wrong { HasNoWrong port (session_of session.now) run.now.journal.items }
-    ensures { IsTrue result ↔ IsKept port (session_of session.now) run.now }
+    ensures { IsTrue result ↔ IsAccountKept port (session_of session.now) run.now }
 {
     if run.line.arrived != received.arrived {
         return false;
@@ -62,12 +62,12 @@ fn is_seen(
 ) -> Result<bool, NoMemory>
     requires received { IsReceived port (session_of session.now) run.now.line.overruns.items received.now }
     requires shown { AreShown (flip_on port (session_of session.now)) 0 0 run.now.line.overruns.items }
-    requires kept { IsKept port (session_of session.now) run.now }
+    requires kept { IsAccountKept port (session_of session.now) run.now }
     ensures { IfOk result (λ seen.
         IsTrue seen ↔ AreSeen port (session_of session.now) run.now.journal.items run.now.line.overruns.items) }
 {
-    let _ = session;
-    let _ = port;
+    let _ = session; // for the contract alone
+    let _ = port; // for the contract alone
     let _ = received.kept.len();
     let taken = taken_by(alloc, &run.journal)?;
     Ok(are_between(

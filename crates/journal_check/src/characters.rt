@@ -1,6 +1,6 @@
 //! The characters of a journal.
 
-ghost use Rattle.std.specs.Prelude.{◌≡◌, ◌↔◌, ◌≤◌, ◌<◌, ◌^◌, IsTrue, length};
+ghost use Rattle.std.specs.Prelude.{◌≡◌, ◌↔◌, ◌<◌, IsTrue};
 ghost use Rattle.tty_base.specs.declared.characters.Flagged.{Flagged};
 ghost use Rattle.tty_calls.specs.Plain.{event_of, chars_in};
 ghost use Rattle.tty_terminal.specs.Runs.{chars_of};

@@ -3,7 +3,7 @@
 ghost use Rattle.std.specs.Prelude.{◌≡◌, ◌<◌, All, IfOk, length};
 ghost use Rattle.tty_calls.specs.Sessions.{session_of};
 ghost use Rattle.journal_check.specs.WellFormed.{IsWellFormed};
-ghost use Rattle.journal_check.specs.Verdicts.{IsCountable, HasNoWrong, Fits};
+ghost use Rattle.journal_check.specs.Verdicts.{IsCountable, HasNoWrong, VerdictFits};
 ghost use Rattle.journal_check.specs.Findings.{Finds, first_found};
 
 use crate::account::is_accounted;
@@ -67,7 +67,7 @@ pub fn check(alloc: Global, session: &Session, runs: &[PortRun]) -> Result<Verdi
     requires runs { length runs.now ≡ (session_of session.now).ports }
     requires formed { IsWellFormed (session_of session.now) }
     requires few { All IsCountable runs.now }
-    ensures { IfOk result (λ verdict. Fits (session_of session.now) runs.now verdict) }
+    ensures { IfOk result (λ verdict. VerdictFits (session_of session.now) runs.now verdict) }
 {
     let mut account = None;
     for port in 0..session.ports {

@@ -2,6 +2,7 @@
 
 ghost use Rattle.std.specs.Prelude.{◌≡◌, ◌↔◌, ℕ, Option, Some, true, false, ◌+◌};
 ghost use Rattle.std.specs.Prelude.{◌≤◌, ◌<◌, ◌^◌, IsTrue, IfOk, OnOk, length};
+ghost use Rattle.tty_base.specs.Sizes.{COLUMNS_OF_ENTRY, COLUMNS_OF_PIECE};
 ghost use Rattle.tty_calls.specs.declared.journals.Who.TheVariants as who;
 ghost use Rattle.tty_calls.specs.Plain.{PlainCall, call_of, event_of};
 ghost use Rattle.tty_calls.specs.Sessions.{session_of, scripts_over, names_of, call_at};
@@ -13,7 +14,7 @@ ghost use Rattle.tty_terminal.specs.Steps.{IsPhaseEnd, IsHangup, ByCaller, by_ca
 ghost use Rattle.tty_terminal.specs.Steps.{after_event, after_caller_end, next_phase, with_dropped};
 ghost use Rattle.tty_terminal.specs.Generations.{after_hangup};
 ghost use Rattle.tty_terminal.specs.Runs.{is_of_call, is_flush};
-ghost use Rattle.journal_check.specs.Legal.{IsInPhase};
+ghost use Rattle.legal_runs.specs.Legal.{IsInPhase};
 ghost use Rattle.journal_check.specs.WellFormed.{IsWellFormed};
 ghost use Rattle.journal_check.specs.Trying.{Tries, IsSmall, IsSmallCall};
 ghost use Rattle.journal_check.specs.Scripts.{AreTurns};
@@ -227,7 +228,8 @@ fn try_of_call(
         (event_of entry.now.event))
         (after_event calls terminal.old.terminal (who.Caller caller) entry.now.step entry.now.part
         (event_of entry.now.event)) terminal.new.terminal made) }
-    ensures column { OnOk result (column_in terminal.new.terminal.disc ≤ column_in terminal.old.terminal.disc + 4096) }
+    ensures column { OnOk result
+        (column_in terminal.new.terminal.disc ≤ column_in terminal.old.terminal.disc + COLUMNS_OF_PIECE) }
 {
     match &entry.event {
         Event::Answer { answer, dropped } => {
@@ -279,7 +281,8 @@ fn try_by_caller(
         terminal.old.terminal entry.now.who entry.now.step entry.now.part (event_of entry.now.event))
         (after_event (call_at port (session_of session.now)) terminal.old.terminal entry.now.who entry.now.step
         entry.now.part (event_of entry.now.event)) terminal.new.terminal made) }
-    ensures column { OnOk result (column_in terminal.new.terminal.disc ≤ column_in terminal.old.terminal.disc + 4096) }
+    ensures column { OnOk result
+        (column_in terminal.new.terminal.disc ≤ column_in terminal.old.terminal.disc + COLUMNS_OF_PIECE) }
 {
     if !is_next(terminal, turns.len(), caller, entry.step, entry.part) {
         return Ok(false);
@@ -302,7 +305,7 @@ fn try_piece(terminal: &mut Terminal, entry: &Entry, chars: &[Flagged]) -> Resul
           flushed = Some (record { run = entry.now.step; part = entry.now.part });
         }) terminal.new.terminal made) }
     ensures column { OnOk result
-        (column_in terminal.new.terminal.disc ≤ column_in terminal.old.terminal.disc + 2 ^ 28) }
+        (column_in terminal.new.terminal.disc ≤ column_in terminal.old.terminal.disc + COLUMNS_OF_ENTRY) }
 {
     if entry.who != Who::Flusher {
         return Ok(false);
@@ -333,7 +336,7 @@ pub(crate) fn try_entry(
         (after_event (call_at port (session_of session.now)) terminal.old.terminal entry.now.who entry.now.step
         entry.now.part (event_of entry.now.event)) terminal.new.terminal made) }
     ensures column { OnOk result
-        (column_in terminal.new.terminal.disc ≤ column_in terminal.old.terminal.disc + 2 ^ 28) }
+        (column_in terminal.new.terminal.disc ≤ column_in terminal.old.terminal.disc + COLUMNS_OF_ENTRY) }
 {
     match &entry.event {
         Event::Answer { .. } | Event::Part(_) | Event::Wait => match entry.who {

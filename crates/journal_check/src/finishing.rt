@@ -4,7 +4,7 @@ ghost use Rattle.std.specs.Prelude.{◌≡◌, ◌+◌, ◌≤◌, ◌<◌, ◌^
 ghost use Rattle.tty_calls.specs.Plain.{event_of};
 ghost use Rattle.tty_calls.specs.Sessions.{session_of, ticks_on};
 ghost use Rattle.tty_terminal.specs.Runs.{phase_after};
-ghost use Rattle.journal_check.specs.Legal.{phase_at};
+ghost use Rattle.legal_runs.specs.Legal.{phase_at};
 ghost use Rattle.journal_check.specs.Finishing.{may_go as may_stand, ticks_after};
 ghost use Rattle.journal_check.specs.Finishing.{is_hangup as hangs_up, goes_well as goes_well_from};
 

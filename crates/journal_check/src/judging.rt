@@ -1,6 +1,7 @@
 //! The judge of one port's journal.
 
-ghost use Rattle.std.specs.Prelude.{◌≡◌, ◌==◌, [], ◌<◌, ◌^◌, MatchOption, IfOk, length, map, filter, sum};
+ghost use Rattle.std.specs.Prelude.{◌≡◌, ◌==◌, [], ◌<◌, MatchOption, IfOk, length, map, filter, sum};
+ghost use Rattle.tty_base.specs.Sizes.{NUMBER_END};
 ghost use Rattle.tty_calls.specs.Sessions.{script_of, session_of, scripts_over, names_of, counts_on};
 ghost use Rattle.journal_check.specs.WellFormed.{IsWellFormed};
 ghost use Rattle.journal_check.specs.Verdicts.{HasNoWrong, IsFirstWrong};
@@ -95,7 +96,7 @@ fn first_wrong_of(
     journal: &Journal,
 ) -> Result<Option<u32>, NoMemory>
     requires formed { IsWellFormed (session_of session.now) }
-    requires few { length journal.now.items < 2 ^ 31 }
+    requires few { length journal.now.items < NUMBER_END }
     requires first { Follows port (session_of session.now) [] replay.old }
     ensures { IfOk result (λ found. MatchOption found (HasNoWrong port (session_of session.now) journal.now.items)
         (λ place. IsFirstWrong port (session_of session.now) journal.now.items place)) }
@@ -117,7 +118,7 @@ pub(crate) fn first_wrong(
     journal: &Journal,
 ) -> Result<Option<u32>, NoMemory>
     requires formed { IsWellFormed (session_of session.now) }
-    requires few { length journal.now.items < 2 ^ 31 }
+    requires few { length journal.now.items < NUMBER_END }
     ensures { IfOk result (λ found. MatchOption found (HasNoWrong port (session_of session.now) journal.now.items)
         (λ place. IsFirstWrong port (session_of session.now) journal.now.items place)) }
 {

@@ -1,16 +1,11 @@
 //! What follows from the definitions alone.
 
-ghost use Rattle.std.specs.Prelude.{◌≡◌, ℕ, List, []};
-ghost use Rattle.tty_base.specs.declared.lines.Overrun.{Overrun};
+ghost use Rattle.std.specs.Prelude.{◌≡◌, ℕ, List};
 ghost use Rattle.tty_calls.specs.declared.journals.PortRun.{PortRun};
-ghost use Rattle.tty_calls.specs.Plain.{PlainEntry};
-ghost use Rattle.tty_calls.specs.Sessions.{PlainSession, call_at, counts_on};
+ghost use Rattle.tty_calls.specs.Sessions.{PlainSession};
 ghost use Rattle.tty_calls.specs.Limits.{IsWithinLimits};
-ghost use Rattle.tty_terminal.specs.Terminals.{Terminal};
-ghost use Rattle.tty_terminal.specs.Runs.{Leads};
-ghost use Rattle.journal_check.specs.Legal.{IsAccounted, IsLegalOn, IsPhasePart, session_events_in};
-ghost use Rattle.journal_check.specs.Phases.{BeginsPhase, CompletesPhase};
-ghost use Rattle.journal_check.specs.Verdicts.{HasNoWrong, Fits};
+ghost use Rattle.legal_runs.specs.Legal.{IsAccounted, IsLegalOn};
+ghost use Rattle.journal_check.specs.Verdicts.{HasNoWrong, VerdictFits};
 ghost use Rattle.journal_check.specs.WellFormed.{IsWellFormed};
 ghost use Rattle.journal_check.specs.declared.verdicts.Verdict.{Verdict};
 
@@ -22,8 +17,8 @@ pub fn a_session_within_the_limits_is_well_formed()
 /// No two verdicts fit the same runs.
 pub fn at_most_one_verdict_fits()
     ensures { (session : PlainSession) (runs : List PortRun) (v w : Verdict)
-        → Fits session runs v
-        → Fits session runs w
+        → VerdictFits session runs v
+        → VerdictFits session runs w
         → v ≡ w }
 {}
 
@@ -43,15 +38,4 @@ pub fn an_accounted_run_without_wrong_entries_is_legal()
         → HasNoWrong p session run.journal.items
         → IsAccounted p session run
         → IsLegalOn p session run }
-{}
-
-/// The entries of a phase are those of a finished journal where the terminals at the phase's two ends say so.
-pub fn the_ends_of_a_phase_tell_its_part()
-    ensures { (p : ℕ) (session : PlainSession) (overruns : List Overrun) (k : ℕ) (t : Terminal) (part : List PlainEntry)
-        (u : Terminal)
-        → Leads (call_at p session) (counts_on p session) t part u
-        → session_events_in part ≡ []
-        → BeginsPhase t
-        → CompletesPhase p session overruns k t u
-        → IsPhasePart p session overruns k part }
 {}

@@ -1,5 +1,4 @@
-//! What it is for the journals of a session to be legal runs, what can be said of them, and the judge that
-//! says it.
+//! What can be said of the journals of a session, and the judge that says it.
 #![tactic(auto)]
 
 mod account;
@@ -23,6 +22,5 @@ pub use checking::check;
 pub use laws::{
     a_legal_run_has_no_wrong_entry, a_session_within_the_limits_is_well_formed,
     an_accounted_run_without_wrong_entries_is_legal, at_most_one_verdict_fits,
-    the_ends_of_a_phase_tell_its_part,
 };
 pub use verdicts::Verdict;

@@ -4,7 +4,7 @@ ghost use Rattle.std.specs.Prelude.{◌≡◌, ◌+◌, ◌≤◌, ◌<◌, ◌^
 ghost use Rattle.tty_base.specs.Lines.{arrival_count};
 ghost use Rattle.tty_calls.specs.Sessions.{session_of, line_on};
 ghost use Rattle.tty_calls.specs.Limits.{character_count};
-ghost use Rattle.journal_check.specs.Legal.{phase_at};
+ghost use Rattle.legal_runs.specs.Legal.{phase_at};
 ghost use Rattle.journal_check.specs.WellFormed.{IsWellFormed};
 ghost use Rattle.journal_check.specs.Accounts.{is_at, kept_from};
 ghost use Rattle.journal_check.specs.Receipts.{IsReceived};
@@ -16,7 +16,7 @@ use tty_calls::Session;
 use uart_line::Line;
 
 /// The most characters that a line counts.
-const MOST_ARRIVALS: usize = 0xffff_ffff;
+const MOST_COUNTED: usize = 0xffff_ffff;
 
 /// How many characters arrive in these steps.
 fn arrivals_in(steps: &[LineStep]) -> usize
@@ -57,7 +57,7 @@ fn arrivals_on(alloc: Global, session: &Session, port: usize) -> Result<u32, NoM
         let steps = steps_out(alloc, session, port, phase)?;
         count = sum_of(count, arrivals_in(steps.as_slice()))?;
     }
-    if count > MOST_ARRIVALS {
+    if count > MOST_COUNTED {
         return Err(NoMemory);
     }
     Ok(count as u32)

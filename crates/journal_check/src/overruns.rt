@@ -1,6 +1,7 @@
 //! The overruns of a line.
 
-ghost use Rattle.std.specs.Prelude.{◌≡◌, ◌↔◌, ◌+◌, ◌≤◌, ◌<◌, ◌^◌, IsTrue, length};
+ghost use Rattle.std.specs.Prelude.{◌≡◌, ◌↔◌, ◌+◌, ◌≤◌, ◌<◌, IsTrue, length};
+ghost use Rattle.tty_base.specs.Sizes.{COUNT_END};
 ghost use Rattle.uart_line.specs.Offered.{AreShown};
 
 use tty_base::Overrun;
@@ -30,7 +31,7 @@ fn place_after(overrun: Overrun) -> u64
 
 /// Whether the places of these overruns rise, and each is shown at a full buffer.
 pub(crate) fn are_shown(capacity: u32, overruns: &[Overrun]) -> bool
-    requires { length overruns.now < 2 ^ 62 }
+    requires { length overruns.now < COUNT_END }
     ensures { IsTrue result ↔ AreShown capacity 0 0 overruns.now }
 {
     let mut k = 0;

@@ -1,13 +1,14 @@
 //! A journal replayed, entry by entry.
 
-ghost use Rattle.std.specs.Prelude.{◌≡◌, ℕ, List, ◌∷◌, [], ◌++◌, ◌+◌, ◌<◌, ◌≤◌, ◌^◌};
+ghost use Rattle.std.specs.Prelude.{◌≡◌, List, ◌∷◌, [], ◌++◌, ◌+◌, ◌<◌, ◌≤◌};
 ghost use Rattle.std.specs.Prelude.{true, false, MatchBool, IfOk, OnOk, length};
+ghost use Rattle.tty_base.specs.Sizes.{NUMBER_END};
 ghost use Rattle.tty_calls.specs.Plain.{PlainEntry, entry_of, event_of};
 ghost use Rattle.tty_calls.specs.Sessions.{session_of, scripts_over, names_of};
-ghost use Rattle.journal_check.specs.Legal.{is_phase_end};
+ghost use Rattle.legal_runs.specs.Legal.{is_phase_end};
 ghost use Rattle.journal_check.specs.Verdicts.{IsFine};
 ghost use Rattle.journal_check.specs.Scripts.{AreTurns, AreIdle};
-ghost use Rattle.journal_check.specs.Replaying.{IsReady, Follows, latest_after};
+ghost use Rattle.journal_check.specs.Replaying.{CanBeJudged, Follows, latest_after};
 
 use crate::entries::{stays, try_entry};
 use crate::turns::{Turn, is_in_phase, open_phase};
@@ -38,7 +39,7 @@ pub(crate) fn begin_phase(
     phase: u32,
 ) -> Result<(), NoMemory>
     requires names { names.now ≡ names_of (scripts_over port (session_of session.now).phases) }
-    requires small { phase ≤ 2 ^ 31 }
+    requires small { phase ≤ NUMBER_END }
     requires idle { AreIdle port (session_of session.now) phase turns.old }
     ensures turns { OnOk result (AreTurns port (session_of session.now) phase turns.new) }
     ensures many { OnOk result (length turns.new ≡ length turns.old) }
@@ -52,7 +53,7 @@ pub(crate) fn begin_phase(
 /// What an entry leaves beside the terminal.
 fn note(replay: &mut Replay, session: &Session, port: usize, entry: &Entry) -> Result<(), NoMemory>
     requires names { replay.old.names ≡ names_of (scripts_over port (session_of session.now).phases) }
-    requires small { replay.old.terminal.terminal.phase ≤ 2 ^ 31 }
+    requires small { replay.old.terminal.terminal.phase ≤ NUMBER_END }
     requires idle { is_phase_end (event_of entry.now.event) ≡ true
         → AreIdle port (session_of session.now) replay.old.terminal.terminal.phase replay.old.turns.items }
     ensures same { OnOk result (replay.new
@@ -90,7 +91,7 @@ pub(crate) fn judge(
     port: usize,
     entry: &Entry,
 ) -> Result<bool, NoMemory>
-    requires { IsReady port (session_of session.now) replay.old }
+    requires { CanBeJudged port (session_of session.now) replay.old }
     ensures { IfOk result (λ fine.
         (before : List PlainEntry)
         → Follows port (session_of session.now) before replay.old

@@ -1,17 +1,16 @@
 //! How many callers rest, where a phase may have more of them than the terminal's own questions take.
 
 ghost use Rattle.std.specs.Prelude.{◌≡◌, ◌≤◌, ◌<◌, IfOk, length, count_by};
+ghost use Rattle.tty_base.specs.Sizes.{MOST_NUMBERED};
 ghost use Rattle.tty_terminal.specs.Terminals.{caller_at, is_over, is_resting};
 ghost use Rattle.tty_terminal.specs.Steps.{quiet_with, may_end_with};
 
 use tty_base::NoMemory;
+use tty_base::sizes::MOST_NUMBERED;
 use tty_terminal::Terminal;
 
 /// The most callers of a phase of which the terminal itself says whether they rest.
-const MOST_ASKED: usize = 255;
-
-/// How many callers have a number.
-const MOST_NUMBERED: usize = 65536;
+const MOST_WATCHED: usize = 255;
 
 fn rests(terminal: &Terminal, caller: u16) -> bool
     requires { caller < length terminal.now.terminal.callers }
@@ -24,7 +23,7 @@ fn rests(terminal: &Terminal, caller: u16) -> bool
 /// How many of so many callers are over, or wait.
 fn resting_of(terminal: &Terminal, known: usize) -> usize
     requires known { known ≡ length terminal.now.terminal.callers }
-    requires few { known ≤ 65536 }
+    requires few { known ≤ MOST_NUMBERED }
     ensures { result ≡ count_by is_resting terminal.now.terminal.callers }
 {
     let mut count = 0;
@@ -39,7 +38,7 @@ fn resting_of(terminal: &Terminal, known: usize) -> usize
 /// How many of so many callers are over.
 fn over_of(terminal: &Terminal, known: usize) -> usize
     requires known { known ≡ length terminal.now.terminal.callers }
-    requires few { known ≤ 65536 }
+    requires few { known ≤ MOST_NUMBERED }
     ensures { result ≡ count_by is_over terminal.now.terminal.callers }
 {
     let mut count = 0;
@@ -57,7 +56,7 @@ pub(crate) fn is_quiet(terminal: &Terminal, known: usize, callers: usize) -> Res
     requires { known ≡ length terminal.now.terminal.callers }
     ensures { IfOk result (λ quiet. quiet ≡ quiet_with callers terminal.now.terminal) }
 {
-    if callers <= MOST_ASKED {
+    if callers <= MOST_WATCHED {
         return Ok(terminal.is_quiet(callers as u8));
     }
     if known > MOST_NUMBERED {
@@ -71,7 +70,7 @@ pub(crate) fn may_end(terminal: &Terminal, known: usize, callers: usize) -> Resu
     requires { known ≡ length terminal.now.terminal.callers }
     ensures { IfOk result (λ may. may ≡ may_end_with callers terminal.now.terminal) }
 {
-    if callers <= MOST_ASKED {
+    if callers <= MOST_WATCHED {
         return Ok(terminal.may_end(callers as u8));
     }
     if known > MOST_NUMBERED {

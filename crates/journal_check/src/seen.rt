@@ -4,7 +4,7 @@ ghost use Rattle.std.specs.Prelude.{◌≡◌, ◌+◌, ◌≤◌, ◌<◌, ◌^
 ghost use Rattle.std.specs.Prelude.{OnOk, ◌==◌, if◌then◌else◌, length, drop};
 ghost use Rattle.tty_calls.specs.Plain.{event_of};
 ghost use Rattle.tty_terminal.specs.Runs.{chars_of};
-ghost use Rattle.journal_check.specs.Legal.{is_phase_end as ends_phase, line_ends};
+ghost use Rattle.legal_runs.specs.Legal.{is_phase_end as ends_phase, line_ends};
 ghost use Rattle.journal_check.specs.Seen.{phase_starts, line_stops, phase_from, are_between};
 
 use crate::characters::chars_of_event;

@@ -2,6 +2,7 @@
 
 ghost use Rattle.std.specs.Prelude.{◌≡◌, ◌↔◌, List, ◌+◌, ◌-◌, ◌*◌, ◌^◌, ◌≤◌, ◌<◌, ◌&&◌};
 ghost use Rattle.std.specs.Prelude.{false, Some, is_some, IsTrue, IfOk, OnOk, length};
+ghost use Rattle.tty_base.specs.Sizes.{COLUMNS_OF_CHARACTER, COLUMNS_OF_ENTRY, COLUMNS_OF_PIECE, MOST_SENT, PIECE};
 ghost use Rattle.tty_base.specs.declared.characters.Flagged.{Flagged};
 ghost use Rattle.tty_calls.specs.Plain.{call_of, answer_lent, handle_of, idle};
 ghost use Rattle.ldisc_switch.specs.Disciplines.{column_in};
@@ -17,12 +18,10 @@ ghost use Rattle.journal_check.specs.Trying.{Tries, IsSmall, IsSmallCall, IsAnsw
 use crate::answers::is_same;
 use crate::resting::{is_quiet, may_end};
 use std::alloc::Global;
+use tty_base::sizes::PIECE;
 use tty_base::{Flagged, NoMemory};
 use tty_calls::{AnswerRef, Call};
 use tty_terminal::{Met, Piece, ROOM_FOR_CALL, Terminal};
-
-/// The most characters of one piece of a flush run.
-const MOST_IN_PIECE: usize = 64;
 
 /// How many callers a phase has.
 pub(crate) fn callers_of(counts: &[usize], phase: u32) -> usize
@@ -143,7 +142,7 @@ fn may_flush(terminal: &Terminal, run: u32, part: u32, count: usize) -> bool
     requires { IsSmall terminal.now.terminal }
     ensures live { IsTrue result → 0 < live_count terminal.now.terminal }
     ensures some { IsTrue result → 0 < count }
-    ensures few { IsTrue result → count ≤ 64 }
+    ensures few { IsTrue result → count ≤ PIECE }
     ensures numbered { IsTrue result → IsTrue (piece_follows terminal.now.terminal.flushed run part) }
     ensures sent { IsTrue result
         → IsTrue terminal.now.terminal.line_over
@@ -156,22 +155,22 @@ fn may_flush(terminal: &Terminal, run: u32, part: u32, count: usize) -> bool
 {
     terminal.is_open()
         && count > 0
-        && count <= MOST_IN_PIECE
+        && count <= PIECE
         && follows(terminal.latest_piece(), run, part)
         && (!terminal.line_is_over() || terminal.taken() + count as u64 <= terminal.sent())
 }
 
 /// Hands characters over as long as the discipline accepts, and says whether it accepted all.
 fn receive_all(terminal: &mut Terminal, chars: &[Flagged]) -> bool
-    requires few { length chars.now ≤ 64 }
-    requires taken { terminal.old.terminal.taken < 2 ^ 63 - 2 ^ 32 }
+    requires few { length chars.now ≤ PIECE }
+    requires taken { terminal.old.terminal.taken < MOST_SENT - 2 ^ 32 }
     requires wire { room_for_characters terminal.old.terminal (length chars.now) ≤ terminal.old.wire_room }
     requires signals { length chars.now ≤ terminal.old.signal_room }
     requires column { column_in terminal.old.terminal.disc < 2 ^ 61 }
     ensures tries { Tries (AcceptsAll terminal.old.terminal chars.now)
         (after_characters terminal.old.terminal chars.now) terminal.new.terminal result }
     ensures column { column_in terminal.new.terminal.disc
-        ≤ column_in terminal.old.terminal.disc + 2 ^ 22 * length chars.now }
+        ≤ column_in terminal.old.terminal.disc + COLUMNS_OF_CHARACTER * length chars.now }
 {
     terminal.receive_all(chars) == chars.len()
 }
@@ -188,7 +187,7 @@ pub(crate) fn try_flush(
         (record (after_characters terminal.old.terminal chars.now) {
           flushed = Some (record { run = run; part = part });
         }) terminal.new.terminal made) }
-    ensures column { column_in terminal.new.terminal.disc ≤ column_in terminal.old.terminal.disc + 2 ^ 28 }
+    ensures column { column_in terminal.new.terminal.disc ≤ column_in terminal.old.terminal.disc + COLUMNS_OF_ENTRY }
 {
     if !may_flush(terminal, run, part, chars.len()) {
         return Ok(false);
@@ -219,7 +218,8 @@ fn meet_in_room(
     ensures left { OnOk result (terminal.new.terminal
         ≡ left_by (outcome terminal.old.terminal (caller_at terminal.old.terminal caller) (call_of call.now))
         terminal.old.terminal) }
-    ensures column { OnOk result (column_in terminal.new.terminal.disc ≤ column_in terminal.old.terminal.disc + 4096) }
+    ensures column { OnOk result
+        (column_in terminal.new.terminal.disc ≤ column_in terminal.old.terminal.disc + COLUMNS_OF_PIECE) }
 {
     terminal.reserve(ROOM_FOR_CALL, 0)?;
     let room = terminal.make_room(alloc, call)?;
@@ -289,7 +289,7 @@ fn try_idle(
         terminal.old.terminal) dropped) caller) terminal.new.terminal made) }
     ensures column { OnOk result (column_in terminal.new.terminal.disc ≡ column_in terminal.old.terminal.disc) }
 {
-    let _ = call;
+    let _ = call; // for the contract alone
     if !is_idle(answer) || dropped != 0 || !may_be_idle(terminal, known, callers, caller)? {
         return Ok(false);
     }
@@ -318,9 +318,10 @@ fn try_given(
         (after_answer (with_dropped (left_by
         (outcome terminal.old.terminal (caller_at terminal.old.terminal caller) (call_of call.now))
         terminal.old.terminal) dropped) caller) terminal.new.terminal made) }
-    ensures column { OnOk result (column_in terminal.new.terminal.disc ≤ column_in terminal.old.terminal.disc + 4096) }
+    ensures column { OnOk result
+        (column_in terminal.new.terminal.disc ≤ column_in terminal.old.terminal.disc + COLUMNS_OF_PIECE) }
 {
-    let _ = callers;
+    let _ = callers; // for the contract alone
     let drops = terminal.drops(caller, call);
     if !may_drop(terminal, drops, dropped) {
         return Ok(false);
@@ -359,7 +360,8 @@ pub(crate) fn try_answer(
         (after_answer (with_dropped (left_by
         (outcome terminal.old.terminal (caller_at terminal.old.terminal caller) (call_of call.now))
         terminal.old.terminal) dropped) caller) terminal.new.terminal made) }
-    ensures column { OnOk result (column_in terminal.new.terminal.disc ≤ column_in terminal.old.terminal.disc + 4096) }
+    ensures column { OnOk result
+        (column_in terminal.new.terminal.disc ≤ column_in terminal.old.terminal.disc + COLUMNS_OF_PIECE) }
 {
     if terminal.must_wait(caller, call) {
         return try_idle(terminal, known, callers, caller, call, answer, dropped);
@@ -382,7 +384,8 @@ pub(crate) fn try_part(
         (TakesPart (outcome terminal.old.terminal (caller_at terminal.old.terminal caller) (call_of call.now)) count)
         (after_part (left_by (outcome terminal.old.terminal (caller_at terminal.old.terminal caller) (call_of call.now))
         terminal.old.terminal) caller (handle_of (call_of call.now)) count) terminal.new.terminal made) }
-    ensures column { OnOk result (column_in terminal.new.terminal.disc ≤ column_in terminal.old.terminal.disc + 4096) }
+    ensures column { OnOk result
+        (column_in terminal.new.terminal.disc ≤ column_in terminal.old.terminal.disc + COLUMNS_OF_PIECE) }
 {
     match meet_in_room(alloc, terminal, caller, call)? {
         Met::Takes(taken) => {

@@ -1,14 +1,15 @@
 //! Which calls each caller has in a phase.
 
-ghost use Rattle.std.specs.Prelude.{◌≡◌, ◌↔◌, ℕ, ◌+◌, ◌≤◌, ◌<◌, ◌^◌, ◌==◌, ◌&&◌};
+ghost use Rattle.std.specs.Prelude.{◌≡◌, ◌↔◌, ℕ, ◌+◌, ◌≤◌, ◌<◌, ◌==◌, ◌&&◌};
 ghost use Rattle.std.specs.Prelude.{Some, IsTrue, IfOk, OnOk, length, map, slice_get};
 ghost use Rattle.std.specs.Str.{bytes_eq};
+ghost use Rattle.tty_base.specs.Sizes.{NUMBER_END};
 ghost use Rattle.tty_calls.specs.Plain.{call_of, event_of};
 ghost use Rattle.tty_calls.specs.Sessions.{PlainSession, script_of, session_of, scripts_on};
 ghost use Rattle.tty_calls.specs.Sessions.{scripts_over, names_of, number_in, call_at};
 ghost use Rattle.tty_terminal.specs.Runs.{is_of_call};
-ghost use Rattle.journal_check.specs.Legal.{phase_at, is_caller_end, IsInPhase};
-ghost use Rattle.journal_check.specs.Scripts.{turn_then, turns_with_next, AreTurns, AreIdle, IsOpen, calls_from};
+ghost use Rattle.legal_runs.specs.Legal.{phase_at, is_caller_end, IsInPhase};
+ghost use Rattle.journal_check.specs.Scripts.{turn_then, turns_with_next, AreTurns, AreIdle, IsTurnOfPhase, calls_from};
 
 use tty_base::NoMemory;
 use tty_calls::{Call, Entry, Event, Names, Script, Session, Who};
@@ -50,7 +51,7 @@ pub(crate) fn sum_of(one: usize, other: usize) -> Result<usize, NoMemory>
 
 /// A turn with so many calls more in this phase, by the script at this place.
 fn turn_with(turn: Turn, phase: u32, steps: usize, place: usize) -> Result<Turn, NoMemory>
-    requires { phase ≤ 2 ^ 31 }
+    requires { phase ≤ NUMBER_END }
     ensures { IfOk result (λ next. next ≡ turn_then turn phase steps place) }
 {
     if turn.begun == phase + 1 {
@@ -78,7 +79,7 @@ fn open_script(
     script: &Script,
 ) -> Result<(), NoMemory>
     requires many { length names.now ≤ length turns.old }
-    requires phase { phase ≤ 2 ^ 31 }
+    requires phase { phase ≤ NUMBER_END }
     ensures { OnOk result (turns.new
         ≡ turns_with_next turns.old (number_in names.now script.now.name.bytes) phase (length script.now.calls.items)
         place) }
@@ -100,7 +101,7 @@ pub(crate) fn open_phase(
     requires names { names.now ≡ names_of (scripts_over port (session_of session.now).phases) }
     requires many { length names.now ≤ length turns.old }
     requires phase { phase < length (session_of session.now).phases }
-    requires small { phase ≤ 2 ^ 31 }
+    requires small { phase ≤ NUMBER_END }
     requires idle { AreIdle port (session_of session.now) phase turns.old }
     ensures turns { OnOk result (AreTurns port (session_of session.now) phase turns.new) }
     ensures many { OnOk result (length turns.new ≡ length turns.old) }
@@ -117,7 +118,7 @@ pub(crate) fn open_phase(
 /// Whether a caller's entry is of its part of the phase: of one of its calls there, or its end after
 /// all of them.
 pub(crate) fn is_in_phase(turns: &[Turn], phase: u32, entry: &Entry) -> bool
-    requires { phase < 2 ^ 31 }
+    requires { phase < NUMBER_END }
     ensures { (p : ℕ) (session : PlainSession) → AreTurns p session phase turns.now
         → (IsTrue result ↔ IsInPhase p session phase entry.now.who entry.now.step (event_of entry.now.event)) }
 {
@@ -192,7 +193,7 @@ pub(crate) fn call_in<'a>(
 ) -> Call<'a>
     requires phase { phase < length (session_of session.now).phases }
     requires names { names.now ≡ names_of (scripts_over port (session_of session.now).phases) }
-    requires open { IsOpen port (session_of session.now) phase
+    requires open { IsTurnOfPhase port (session_of session.now) phase
         (scripts_on port (phase_at (session_of session.now) phase)) caller turn }
     requires first { turn.first ≤ step }
     requires within { step < turn.first + turn.steps }

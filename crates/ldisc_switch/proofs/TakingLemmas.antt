@@ -1,6 +1,7 @@
 -- The column that taking a character leaves is that of what it posts.
 use Rattle.std.proofs.Common.{◌≡◌, ℕ, ◌+◌, Bool, true, false, not, ◌&&◌, nat_le, Option}
 use Rattle.std.proofs.Common.{None, Some, List, [], ◌∷◌, length, if◌then◌else◌, refl}
+use Rattle.tty_base.specs.Sizes.{MOST_LINE}
 use Rattle.tty_base.specs.declared.characters.Flag.{Flag}
 use Rattle.tty_base.specs.declared.characters.Flag.TheVariants as flag
 use Rattle.tty_base.specs.declared.counters.Signal.{Signal}
@@ -92,7 +93,7 @@ stored_tells : (modes : Settings) (now : ℕ) (bytes : List ℕ) (tty : NTtyStat
     (tally under on_idle : Tally)
     → Three modes (λ (port : OnPort). after_store modes now bytes port) tty output tally under on_idle
 stored_tells modes now bytes tty output tally under on_idle =
-    silent_cases (has_flag modes ICANON) (nat_le (length tty.edit + length bytes) 4095)
+    silent_cases (has_flag modes ICANON) (nat_le (length tty.edit + length bytes) MOST_LINE)
     modes now bytes tty output tally under on_idle
 
 ordinary_tells : (modes : Settings) (now byte : ℕ) (tty : NTtyState) (output : Output) (tally under on_idle : Tally)
@@ -100,7 +101,7 @@ ordinary_tells : (modes : Settings) (now byte : ℕ) (tty : NTtyState) (output :
     → Three modes (λ (port : OnPort). after_ordinary modes now byte port) tty output tally under on_idle
 ordinary_tells modes now byte tty output tally under on_idle zero =
     let bytes : List ℕ = ordinary_bytes modes byte in
-    stored_cases (has_flag modes ICANON) (nat_le (length tty.edit + length bytes) 4095) modes now bytes
+    stored_cases (has_flag modes ICANON) (nat_le (length tty.edit + length bytes) MOST_LINE) modes now bytes
     (echo_of modes (event.Plain byte)) tty output tally under on_idle zero
 
 delimiter_tells : (modes : Settings) (now byte : ℕ) (echo : EchoEvent) (tty : NTtyState) (output : Output)

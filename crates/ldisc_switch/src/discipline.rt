@@ -1,8 +1,8 @@
 //! A line discipline of either kind, with what both can do.
 
-ghost use Rattle.std.specs.Prelude.{◌≡◌, ◌+◌, ◌*◌, ◌^◌, ◌<◌, ◌≤◌, List, length};
+ghost use Rattle.std.specs.Prelude.{◌≡◌, ◌+◌, ◌*◌, ◌<◌, ◌≤◌, List, length};
 ghost use Rattle.std.specs.Prelude.{take, [], ◌∷◌, ◌++◌, IfOk, ℕ, true, false};
-ghost use Rattle.tty_base.specs.Sizes.{COUNT_END, MOST_HELD, MOST_LINE, MOST_UNREAD};
+ghost use Rattle.tty_base.specs.Sizes.{COLUMNS_OF_CHARACTER, COUNT_END, MOST_HELD, MOST_LINE, MOST_UNREAD};
 ghost use Rattle.tty_modes.specs.Settings.{Settings};
 ghost use Rattle.flow_control.specs.declared.tally.Tally.{Tally};
 ghost use Rattle.ldisc_switch.specs.Disciplines.{kind_of, fresh_of, accepts_of, unread_of, Fits, column_in};
@@ -116,7 +116,7 @@ impl Disc {
             ≤ wire.new.spare + (pending_count_of self.old wire.old + CHARACTER_ROOM) }
         ensures signals { tally.old.signals.spare ≤ tally.new.signals.spare + 1 }
         // So a caller can say how far its characters have moved the column.
-        ensures moved { column_in self.new ≤ column_in self.old + 2 ^ 22 }
+        ensures moved { column_in self.new ≤ column_in self.old + COLUMNS_OF_CHARACTER }
         ensures past { last_in self.old ≤ now → last_in self.new ≤ now }
     {
         match self {
@@ -141,7 +141,7 @@ impl Disc {
         requires fitting { Fits modes.now self.old }
         requires room { pending_count_of self.old wire.old + CHARACTER_ROOM * length chars.now ≤ wire.old.spare }
         requires signals { length chars.now ≤ tally.old.signals.spare }
-        requires column { column_in self.old + 2 ^ 22 * length chars.now < COUNT_END }
+        requires column { column_in self.old + COLUMNS_OF_CHARACTER * length chars.now < COUNT_END }
         ensures within { result ≤ length chars.now }
         ensures after { disc_on_port self.new wire.new tally.new
             ≡ after_characters_of modes.now now (take result chars.now) (disc_on_port self.old wire.old tally.old) }
@@ -155,7 +155,7 @@ impl Disc {
         ensures spent { wire.old.spare + pending_count_of self.new wire.new
             ≤ wire.new.spare + (pending_count_of self.old wire.old + CHARACTER_ROOM * result) }
         ensures signals { tally.old.signals.spare ≤ tally.new.signals.spare + result }
-        ensures moved { column_in self.new ≤ column_in self.old + 2 ^ 22 * result }
+        ensures moved { column_in self.new ≤ column_in self.old + COLUMNS_OF_CHARACTER * result }
         ensures past { last_in self.old ≤ now → last_in self.new ≤ now }
     {
         match self {

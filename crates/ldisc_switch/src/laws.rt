@@ -19,7 +19,7 @@ ghost use Rattle.ldisc_switch.specs.declared.discipline.Disc.{Disc};
 ghost use Rattle.ldisc_switch.specs.Disciplines.{kind_of, fresh_of, after_ixoff_rule_of};
 ghost use Rattle.ldisc_switch.specs.Disciplines.{after_character_of, disc_without_room};
 ghost use Rattle.ldisc_switch.specs.Happenings.{Happening, read, write, flush, mode_change, packet_take};
-ghost use Rattle.ldisc_switch.specs.Happenings.{after_one, after_all, HasHappened, slip_parts};
+ghost use Rattle.ldisc_switch.specs.Happenings.{after_one, HasHappened, slip_parts};
 ghost use Rattle.ldisc_switch.specs.Posted.{text_of_all};
 
 /// A call of N_TTY is the happening of its name.

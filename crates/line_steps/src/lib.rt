@@ -4,18 +4,18 @@
 
 ghost use Rattle.std.specs.Prelude.{◌≡◌, ◌≤◌, ◌-◌, ◌^◌, [], ◌∷◌, ◌++◌, if◌then◌else◌};
 ghost use Rattle.std.specs.Prelude.{IfOk, OnOk, OnErr, length, map, take, min};
-ghost use Rattle.line_steps.specs.Steps.{rx_step, steps_of, steps_in};
+ghost use Rattle.line_steps.specs.Steps.{MOST_AT_ONCE, rx_step, steps_of, steps_in};
 
 use std::alloc::Global;
 use std::marker::Model;
 use tty_base::{Flag, Flagged, LineStep, Moves, NoMemory, front_of};
 
-/// How many steps are written out at a time.
-const PIECE: usize = 64;
+/// The most steps of a run that are written out at once.
+const MOST_AT_ONCE: usize = 64;
 
 /// What happens on a line: characters with one flag, one after the other, or one step of any kind.
 #[derive(Debug, Drop)]
-pub enum Part {
+pub enum LinePart {
     /// Characters that arrive one after the other, each with this flag.
     Run(Flag, Vec<u8>),
     /// One step, of any kind.
@@ -26,7 +26,7 @@ pub enum Part {
 /// byte each.
 #[derive(Debug, Drop)]
 pub struct LineSteps {
-    parts: Vec<Part>,
+    parts: Vec<LinePart>,
 }
 
 impl Model for LineSteps {
@@ -54,7 +54,7 @@ impl LineSteps {
         ensures ok { OnOk result (self.new.items ≡ self.old.items ++ step ∷ []) }
         ensures err { OnErr result (self.new ≡ self.old) }
     {
-        self.parts.push(Part::One(step))?;
+        self.parts.push(LinePart::One(step))?;
         Ok(())
     }
 
@@ -66,13 +66,13 @@ impl LineSteps {
         if add_to_last(&mut self.parts, flag, bytes.as_slice())? {
             return Ok(());
         }
-        self.parts.push(Part::Run(flag, bytes))?;
+        self.parts.push(LinePart::Run(flag, bytes))?;
         Ok(())
     }
 
     /// The parts that the steps are kept in, in order.
     #[inline(always)]
-    pub fn parts(&self) -> &[Part]
+    pub fn parts(&self) -> &[LinePart]
         ensures { steps_in result.now ≡ self.now.items }
     {
         self.parts.as_slice()
@@ -102,14 +102,14 @@ impl LineSteps {
     }
 }
 
-impl Part {
+impl LinePart {
     /// How many steps it is.
     fn len(&self) -> usize
         ensures { result ≡ length (steps_of self.now) }
     {
         match self {
-            Part::Run(_, bytes) => bytes.len(),
-            Part::One(_) => 1,
+            LinePart::Run(_, bytes) => bytes.len(),
+            LinePart::One(_) => 1,
         }
     }
 
@@ -120,14 +120,14 @@ impl Part {
         ensures err { OnErr result (steps_of self.new ≡ steps_of self.old) }
     {
         match self {
-            Part::Run(same, run) => {
+            LinePart::Run(same, run) => {
                 if *same != flag {
                     return Ok(false);
                 }
                 run.extend_from_slice(bytes)?;
                 Ok(true)
             }
-            Part::One(_) => Ok(false),
+            LinePart::One(_) => Ok(false),
         }
     }
 
@@ -136,8 +136,8 @@ impl Part {
         ensures { OnOk result (steps.new.items ≡ steps.old.items ++ steps_of self.now) }
     {
         match self {
-            Part::Run(flag, bytes) => write_run(steps, *flag, bytes.as_slice()),
-            Part::One(step) => {
+            LinePart::Run(flag, bytes) => write_run(steps, *flag, bytes.as_slice()),
+            LinePart::One(step) => {
                 steps.push(*step)?;
                 Ok(())
             }
@@ -147,7 +147,7 @@ impl Part {
 
 /// Adds the arrivals of these bytes to the last part, where that is a run of this flag, and answers whether it
 /// is.
-fn add_to_last(parts: &mut [Part], flag: Flag, bytes: &[u8]) -> Result<bool, NoMemory>
+fn add_to_last(parts: &mut [LinePart], flag: Flag, bytes: &[u8]) -> Result<bool, NoMemory>
     ensures ok { IfOk result
         (λ added. steps_in parts.new ≡ steps_in parts.old ++ (if added then map (rx_step flag) bytes.now else [])) }
     ensures err { OnErr result (steps_in parts.new ≡ steps_in parts.old) }
@@ -163,10 +163,10 @@ fn add_to_last(parts: &mut [Part], flag: Flag, bytes: &[u8]) -> Result<bool, NoM
 fn write_run(steps: &mut Vec<LineStep>, flag: Flag, bytes: &[u8]) -> Result<(), NoMemory>
     ensures { OnOk result (steps.new.items ≡ steps.old.items ++ map (rx_step flag) bytes.now) }
 {
-    let mut piece = [LineStep::Break; PIECE];
+    let mut piece = [LineStep::Break; MOST_AT_ONCE];
     let mut rest = bytes;
     while !rest.is_empty() {
-        let (front, after) = rest.split_at(rest.len().min(PIECE));
+        let (front, after) = rest.split_at(rest.len().min(MOST_AT_ONCE));
         set_piece(&mut piece, flag, front);
         steps.extend_from_slice(front_of(&piece, front.len()))?;
         rest = after;
@@ -175,8 +175,8 @@ fn write_run(steps: &mut Vec<LineStep>, flag: Flag, bytes: &[u8]) -> Result<(), 
 }
 
 /// Makes the first steps of a piece the arrivals of these bytes.
-fn set_piece(piece: &mut [LineStep; PIECE], flag: Flag, bytes: &[u8])
-    requires { length bytes.now ≤ 64 }
+fn set_piece(piece: &mut [LineStep; MOST_AT_ONCE], flag: Flag, bytes: &[u8])
+    requires { length bytes.now ≤ MOST_AT_ONCE }
     ensures { take (length bytes.now) piece.new ≡ map (rx_step flag) bytes.now }
 {
     // mostly good ones come, and a flag that is known takes half the time
@@ -187,8 +187,8 @@ fn set_piece(piece: &mut [LineStep; PIECE], flag: Flag, bytes: &[u8])
 }
 
 #[inline(always)]
-fn set_flagged(piece: &mut [LineStep; PIECE], flag: Flag, bytes: &[u8])
-    requires { length bytes.now ≤ 64 }
+fn set_flagged(piece: &mut [LineStep; MOST_AT_ONCE], flag: Flag, bytes: &[u8])
+    requires { length bytes.now ≤ MOST_AT_ONCE }
     ensures { take (length bytes.now) piece.new ≡ map (rx_step flag) bytes.now }
 {
     for place in 0..bytes.len() {

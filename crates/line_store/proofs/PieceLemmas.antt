@@ -4,6 +4,7 @@ use Rattle.std.proofs.Common.{cond, eqb, nat_le, List, [], ◌∷◌, ◌++◌, 
 use Rattle.std.proofs.Common.{ap, refl, sym, arith, get_or, inl, inr, length-append, length-drop}
 use Rattle.std.proofs.lemmas.Bool.{cases_eq, le-leb, leb-true, leb-false, eq-eqb, ne_eqb}
 use Rattle.std.proofs.lemmas.List.{take_min, drop_min, length-take, take-take, nil_from_length}
+use Rattle.tty_base.specs.Sizes.{MOST_ENDS, MOST_UNREAD}
 use Rattle.line_store.specs.Unread.{Item, Byte, End, bytes_of, end_count, first_piece, line_of, after_line}
 use Rattle.line_store.specs.Pieces.{items_of, total, after_front, IsStore}
 use Rattle.line_store.proofs.ItemLemmas.{bytes_of-append, bytes_of-plain, end_count-append}
@@ -221,7 +222,7 @@ module _ (ns bs : List ℕ) (unended : ℕ) (items : List Item) (store : IsStore
 
   abbrev pub store_with_more : (later added : List ℕ)
       → later ≡ bs ++ added
-      → length (bytes_of items) + length added ≤ 4096
+      → length (bytes_of items) + length added ≤ MOST_UNREAD
       → IsStore ns later (unended + length added)
   store_with_more later added is room =
       let grown = ap length is in
@@ -236,7 +237,7 @@ module _ (ns bs : List ℕ) (unended : ℕ) (items : List Item) (store : IsStore
 
   abbrev pub store_with_end : (later : List ℕ)
       → later ≡ ns ++ unended ∷ []
-      → end_count items < 4096
+      → end_count items < MOST_ENDS
       → IsStore later bs 0
   store_with_end later is few =
       let grown = ap total is in

@@ -1,14 +1,19 @@
 -- Unread input as its bytes and the lengths of its complete pieces.
-use Rattle.std.specs.Prelude.{◌≡◌, ℕ, ◌+◌, ◌-◌, ◌≤◌, ◌==◌, List, [], ◌∷◌, ◌++◌, length, map, take, drop, if◌then◌else◌}
+use Rattle.std.specs.Prelude.{◌≡◌, ℕ, ◌+◌, ◌-◌, ◌*◌, ◌≤◌, ◌==◌, List, [], ◌∷◌, ◌++◌}
+use Rattle.std.specs.Prelude.{length, map, take, drop, if◌then◌else◌}
 use Rattle.tty_base.specs.Sizes.{MOST_UNREAD, MOST_ENDS}
 use Rattle.line_store.specs.Unread.{Item, Byte, End}
 
--- a queue's items are 4,096 at most, behind 4,096 at most that were taken; it serves the bytes and the ends alike
+-- the most items of a queue: it serves the bytes and the ends alike
+abbrev pub MOST_QUEUED : ℕ
+MOST_QUEUED = 4096
+
+-- so many items at most, behind as many at most that were taken
 pub record IsQueue (len capacity start : ℕ) : Type 0 where
-  pub taken : start ≤ 4096
+  pub taken : start ≤ MOST_QUEUED
   pub within : start ≤ len
-  pub few : len ≤ start + 4096
-  pub reserved : 8192 ≤ capacity
+  pub few : len ≤ start + MOST_QUEUED
+  pub reserved : 2 * MOST_QUEUED ≤ capacity
 
 -- the bytes with an end after each complete piece
 abbrev pub items_of : (lengths : List ℕ) → (bytes : List ℕ) → List Item

@@ -1,5 +1,5 @@
 -- Unread input: bytes, and the ends of its pieces.
-use Rattle.std.specs.Prelude.{◌≡◌, ℕ, suc, min, List, [], ◌∷◌, ◌++◌, length, take, drop, if◌then◌else◌, nat_le}
+use Rattle.std.specs.Prelude.{ℕ, suc, min, List, [], ◌∷◌, length, take, drop, if◌then◌else◌, nat_le}
 use Rattle.tty_base.specs.Sizes.{MOST_READ}
 
 -- a byte, or the end of the piece before it
@@ -24,10 +24,6 @@ abbrev pub first_piece : List Item → List ℕ
 first_piece [] = []
 first_piece (Byte b ∷ items) = b ∷ first_piece items
 first_piece (End ∷ items) = []
-
--- the last piece has a byte, and no end yet
-abbrev pub EndsInByte : List Item → Type 0
-EndsInByte items = (front : List Item) × (b : ℕ) × (items ≡ front ++ Byte b ∷ [])
 
 -- how many bytes a read that asks for n gets at most
 abbrev pub read_size : ℕ → ℕ

@@ -4,6 +4,7 @@ ghost use Rattle.std.specs.Prelude.{◌≡◌, ◌<◌, ◌≤◌, ◌+◌, IfOk
 ghost use Rattle.std.specs.Prelude.{take, drop, slice_set, vec_len, vec_capacity};
 ghost use Rattle.std.specs.List.{AllByRecursion};
 ghost use Rattle.line_store.specs.Good.{IsGood, bytes_in};
+ghost use Rattle.line_store.specs.Pieces.{MOST_QUEUED};
 
 use char_lanes::push_run;
 use std::alloc::Global;
@@ -11,10 +12,10 @@ use std::marker::Model;
 use tty_base::{Flagged, NoMemory};
 
 /// How many items a queue holds at most, of bytes and of ends alike.
-const MOST: usize = 4096;
+const MOST_QUEUED: usize = 4096;
 
 /// How many items have room in its memory: those that it holds, and before them as many that were taken.
-const ROOM: usize = 2 * MOST;
+const ROOM: usize = 2 * MOST_QUEUED;
 
 /// A queue of at most 4,096 items. Contracts see them in order.
 #[derive(Drop)]
@@ -47,7 +48,7 @@ impl<T: Copy> Queue<T> {
     /// Adds an item at the end.
     #[inline(always)]
     pub fn push(&mut self, item: T)
-        requires { length self.old < 4096 }
+        requires { length self.old < MOST_QUEUED }
         ensures { self.new ≡ self.old ++ item ∷ [] }
     {
         self.items.push_reserved(item);
@@ -55,7 +56,7 @@ impl<T: Copy> Queue<T> {
 
     /// Adds several items at the end.
     pub fn append(&mut self, items: &[T])
-        requires { length self.old + length items.now ≤ 4096 }
+        requires { length self.old + length items.now ≤ MOST_QUEUED }
         ensures { self.new ≡ self.old ++ items.now }
     {
         match self.items.extend_from_slice(items) {
@@ -70,7 +71,7 @@ impl<T: Copy> Queue<T> {
         ensures { self.new ≡ drop count self.old }
     {
         let start = self.start + count;
-        if start <= MOST && start < self.items.len() {
+        if start <= MOST_QUEUED && start < self.items.len() {
             self.start = start;
         } else {
             close_up(&mut self.items, start);
@@ -97,7 +98,7 @@ impl<T: Copy> Queue<T> {
     /// The items, in order.
     pub fn as_slice(&self) -> &[T]
         ensures items { result.now ≡ self.now }
-        ensures few { length self.now ≤ 4096 }
+        ensures few { length self.now ≤ MOST_QUEUED }
     {
         &self.items[self.start..]
     }
@@ -105,7 +106,7 @@ impl<T: Copy> Queue<T> {
     /// How many items there are.
     pub fn len(&self) -> usize
         ensures len { result ≡ length self.now }
-        ensures few { result ≤ 4096 }
+        ensures few { result ≤ MOST_QUEUED }
     {
         self.items.len() - self.start
     }
@@ -127,7 +128,7 @@ impl Queue<u8> {
     /// Adds the bytes of the good characters at the front. Answers how many.
     #[inline(always)]
     pub fn append_good(&mut self, chars: &[Flagged]) -> usize
-        requires { length self.old + length chars.now ≤ 4096 }
+        requires { length self.old + length chars.now ≤ MOST_QUEUED }
         ensures within { result ≤ length chars.now }
         ensures good { AllByRecursion IsGood (take result chars.now) }
         ensures added { self.new ≡ self.old ++ bytes_in (take result chars.now) }

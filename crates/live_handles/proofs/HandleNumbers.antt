@@ -7,6 +7,7 @@ use Rattle.std.specs.List.{position_or_len}
 use Rattle.std.proofs.lemmas.Bool.{cases_eq}
 use Rattle.std.proofs.lemmas.List.{length-map, length-set, length-replicate}
 use Rattle.std.proofs.lemmas.List.Sums.{position_or_len_is}
+use Rattle.tty_base.specs.Sizes.{MOST_HANDLES}
 use Rattle.tty_base.specs.declared.characters.Flagged.{Flagged}
 use Rattle.tty_base.specs.declared.counters.Errno.{Errno}
 use Rattle.tty_calls.specs.declared.calls.Access.{Access}
@@ -229,16 +230,16 @@ leads_stay f counts t (e ∷ es) u h =
 no_handle : Option HandleState
 no_handle = None
 
-pub are_numbers : (v : PortValue) → IsPort v → length v.terminal.handles ≡ 32
+pub are_numbers : (v : PortValue) → IsPort v → length v.terminal.handles ≡ MOST_HANDLES
 are_numbers v port =
     leads_stay (call_in v.kept) v.counts (opening (sum v.counts) v.flip.capacity) v.journal v.terminal port.run
-    ∙ length-replicate 32 no_handle
+    ∙ length-replicate MOST_HANDLES no_handle
 
 -- ---- the least that is live
 
 pub first_live : (v : PortValue) (h : ℕ)
     → IsPort v
-    → h < 32
+    → h < MOST_HANDLES
     → table.is_live (handle_at v.terminal h) ≡ true
     → ((k : ℕ) → k < h → table.is_live (handle_at v.terminal k) ≡ false)
     → position table.is_live v.terminal.handles ≡ Some h
@@ -253,7 +254,7 @@ first_live v h port few live before =
 
 pub none_live : (v : PortValue) (h : ℕ)
     → IsPort v
-    → 32 ≤ h
+    → MOST_HANDLES ≤ h
     → ((k : ℕ) → k < h → table.is_live (handle_at v.terminal k) ≡ false)
     → position table.is_live v.terminal.handles ≡ None
 none_live v h port all before =

@@ -6,9 +6,7 @@ ghost use Rattle.handle_table.specs.Handles.{is_live};
 
 use handle_table::HandleState;
 use port_core::Port;
-
-/// How many numbers handles have.
-const HANDLES: u8 = 32;
+use tty_base::sizes::MOST_HANDLES;
 
 fn is_live(handle: Option<HandleState>) -> bool
     ensures { result ≡ is_live handle }
@@ -23,8 +21,8 @@ fn is_live(handle: Option<HandleState>) -> bool
 pub fn least_live(port: &Port) -> Option<u8>
     ensures { result ≡ position is_live port.now.terminal.handles }
 {
-    let _journal = port.journal();
-    for h in 0..HANDLES {
+    port.known();
+    for h in 0..MOST_HANDLES {
         if is_live(port.handle(h)) {
             return Some(h);
         }

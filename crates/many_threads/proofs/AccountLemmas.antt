@@ -12,14 +12,14 @@ use Rattle.tty_calls.specs.Plain.{line_ended, clock_ended, caller_ended, phase_e
 use Rattle.tty_calls.specs.Sessions.{call_at}
 use Rattle.tty_terminal.specs.Makers.{IsByItsMaker}
 use Rattle.tty_terminal.specs.Runs.{is_of_call, phase_after}
-use Rattle.journal_check.specs.Legal.{IsCallerOf, first_step, steps_in, is_caller_end}
-use Rattle.journal_check.specs.Legal.{session_events, session_events_in, IsInPhase, AreInPhases}
+use Rattle.legal_runs.specs.Legal.{IsCallerOf, first_step, steps_in, is_caller_end, session_events, session_events_in}
+use Rattle.legal_runs.specs.Legal.{IsInPhase, AreInPhases}
 use Rattle.port_cell.specs.declared.kept.Stamped.{Stamped}
 use Rattle.port_cell.specs.Entries as histories
-use Rattle.port_cell.specs.Entries.{Keeps, entries_by}
+use Rattle.port_cell.specs.Entries.{entries_by}
 use Rattle.port_cell.specs.Knowledge.{list_seen}
 use Rattle.port_cell.proofs.OwnEntries.{entries_by-append}
-use Rattle.one_thread.specs.Roles.{Scene, PlainRole, IsRoleOf}
+use Rattle.play_base.specs.Roles.{Scene, PlainRole, IsRoleOf}
 use Rattle.tty_port.specs.Inside.{EntryWithCall}
 use Rattle.tty_port.specs.Histories.{seat_of, call_by}
 use Rattle.tty_port.specs.Seen.{entries_in}
@@ -29,7 +29,7 @@ use Rattle.tty_port.specs.Shared.{IsHere, HasAllOf, opening_history}
 use Rattle.tty_port.specs.declared.shared.SharedPort.{SharedPort}
 use Rattle.tty_port.proofs.Keeping.{by_another}
 use Rattle.many_threads.specs.Parts as parts
-use Rattle.many_threads.specs.Parts.{IsOfCalls, IsOfRole, MakesInRole}
+use Rattle.many_threads.specs.Parts.{IsOfRole}
 use Rattle.many_threads.specs.Callers.{MadeAs}
 use Rattle.many_threads.specs.PhaseStarts.{IsCast}
 

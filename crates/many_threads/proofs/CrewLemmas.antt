@@ -8,10 +8,10 @@ use Rattle.tty_calls.specs.declared.answers.Denied.TheVariants.{NoMemory, Full}
 use Rattle.tty_calls.specs.declared.sessions.Script.{Script}
 use Rattle.tty_calls.specs.Plain.{PlainCall}
 use Rattle.tty_calls.specs.Limits.{IsCallWithin}
-use Rattle.one_thread.specs.Roles.{PlainRole, role_in, calls_in}
+use Rattle.play_base.specs.Roles.{PlainRole, role_in, calls_in}
 use Rattle.port_cell.specs.Knowledge.{list_seen}
 use Rattle.tty_port.specs.Inside.{Name}
-use Rattle.tty_port.specs.Seen.{IsBetween}
+use Rattle.tty_port.specs.Seen.{IsBetweenCalls}
 use Rattle.tty_port.specs.Adding.{IsFull}
 use Rattle.tty_port.specs.Calls.{PortSeat}
 use Rattle.tty_port.specs.Shared.{IsHere, AreHere, name_of_port, opening_history}
@@ -21,9 +21,9 @@ use Rattle.many_threads.specs.Needs.{CanPlayCaller}
 use Rattle.many_threads.specs.Parts.{MakesInRole, PlaysCaller}
 use Rattle.many_threads.specs.Comings.{CallerComes}
 use Rattle.many_threads.specs.Callers.{plain_role, plain_cast, CanPlay, CanPlayAll, IsPlayable}
-use Rattle.many_threads.specs.Callers.{IsBack, PlayedAs, EachCaller, SomeSawFull, CallersCome, IsTold}
+use Rattle.many_threads.specs.Callers.{IsBack, PlayedAs, EachCaller, SomeSawFull, CallersCome, TellsFull}
 use Rattle.many_threads.specs.declared.thread_bodies.SeatBack.{SeatBack}
-use Rattle.one_thread.specs.declared.roles.Role.{Role}
+use Rattle.play_base.specs.declared.roles.Role.{Role}
 use Rattle.many_threads.specs.declared.caller_threads.CallersBack.{CallersBack}
 
 -- ---- lists
@@ -101,7 +101,7 @@ told_more false true full A B A' B' F P e f g h was one = subst (λ (x : Bool). 
 told_more false false full A B A' B' F P e f g h was one = subst (λ (x : Bool). MatchBool x A' B') (sym e) (h was one)
 
 pub either_told : (result : Result (Unit {0}) Denied) (k : Bool) (P W : Type 0) (F : Denied → Type 0)
-    → IsTold result k
+    → TellsFull result k
     → OnOk result P
     → OnErr result W
     → IfErr result F
@@ -149,7 +149,7 @@ pub callers_more : (p : SharedPort) (roles : List (Option PlainRole)) (r : Plain
     → CallersCome p roles back
     → now.seats.items ≡ back.seats.items ++ one.seat ∷ []
     → now.full ≡ (back.full || k)
-    → IsTold one.result k
+    → TellsFull one.result k
     → CallerComes p (length roles) r.first r.calls (opening_history p) one
     → CallersCome p (roles ++ Some r ∷ []) now
 callers_more p roles r back now one k h seats full told comes =
@@ -238,8 +238,8 @@ crew_needs p scripts cast before last role ss seat calls h is same =
       known = subst (λ (k : ℕ). k < sum (name_of_port p).counts) (sym number) can.known;
       within = subst (All IsCallWithin) (sym same) can.within;
       few = subst (λ (cs : List PlainCall). role.first + length cs < 2 ^ 32) (sym same) can.few;
-      between = subst (λ (k : ℕ). IsBetween k role.first (list_seen seat)) (sym number)
-          (subst (IsBetween n role.first) (sym h.seen) can.between);
+      between = subst (λ (k : ℕ). IsBetweenCalls k role.first (list_seen seat)) (sym number)
+          (subst (IsBetweenCalls n role.first) (sym h.seen) can.between);
     }
 
 pub crew_none : (p : SharedPort) (scripts : List Script) (cast before : List (Option Role)) (last : Option Role)
@@ -264,7 +264,7 @@ pub crew_more : (p : SharedPort) (scripts : List Script) (cast before : List (Op
     → calls ≡ calls_in (slice_get scripts role.place)
     → CallersCome p (plain_cast scripts before) back
     → CallerComes p role.number role.first calls (list_seen seat) one
-    → IsTold one.result k
+    → TellsFull one.result k
     → now.seats.items ≡ back.seats.items ++ one.seat ∷ []
     → now.full ≡ (back.full || k)
     → CallersCome p (plain_cast scripts cast) now

@@ -9,7 +9,7 @@ use Rattle.word_ring.specs.Ends.{PutterState}
 use Rattle.uart_line.specs.LineState.{LineState}
 use Rattle.tty_calls.specs.declared.answers.Denied.{Denied}
 use Rattle.tty_calls.specs.declared.answers.Denied.TheVariants as denied
-use Rattle.one_thread.specs.Roles.{PlainRole}
+use Rattle.play_base.specs.Roles.{PlainRole}
 use Rattle.port_cell.specs.declared.kept.Stamped.{Stamped}
 use Rattle.port_cell.specs.Knowledge.{number_of, list_seen}
 use Rattle.port_cell.specs.Seats.{EachSeat, HasAll}
@@ -31,7 +31,7 @@ use Rattle.many_threads.specs.Callers.{EachCaller, IsBack, PlayedAs, SomeSawFull
 use Rattle.many_threads.specs.Crew.{cast_of, CanRun, CrewComes, seats_of}
 use Rattle.many_threads.specs.Seats.{AreDealt}
 use Rattle.many_threads.specs.PhaseEnds.{AreSeats, AreBack, all_seats, end_of, IsNextTold}
-use Rattle.many_threads.specs.PhaseEnds.{AreTaken, ArePlayed, AreStopped, Tells, ThreadsCome}
+use Rattle.many_threads.specs.PhaseEnds.{AreTaken, PartsArePlayed, AreStopped, Tells, ThreadsCome}
 use Rattle.many_threads.proofs.CrewLemmas.{cast_length, either_told}
 
 -- ---- seats in their places
@@ -68,8 +68,16 @@ all_are_seats p seats h =
     let m = (name_of_port p).callers in
     let two : m + 2 ≡ m + 1 + 1 = omega arith in
     let three : m + 3 ≡ m + 1 + 1 + 1 = omega arith in
-    let four : AreSeats p m (seats.flusher ∷ seats.line ∷ seats.clock ∷ seats.session ∷ []) =
-    (h.flusher, (h.line, (subst (λ (j : ℕ). IsHere p j seats.clock) two h.clock, (subst (λ (j : ℕ). IsHere p j seats.session) three h.session, tt))))
+    let four : AreSeats p m (seats.flusher ∷ seats.line ∷ seats.clock ∷ seats.session ∷ []) = (
+      h.flusher,
+      (
+        h.line,
+        (
+          subst (λ (j : ℕ). IsHere p j seats.clock) two h.clock,
+          (subst (λ (j : ℕ). IsHere p j seats.session) three h.session, tt),
+        ),
+      ),
+    )
     in
     seats_append p 0 seats.callers.items (seats.flusher ∷ seats.line ∷ seats.clock ∷ seats.session ∷ []) h.callers
     (subst (λ (j : ℕ). AreSeats p j (seats.flusher ∷ seats.line ∷ seats.clock ∷ seats.session ∷ []))
@@ -157,7 +165,7 @@ ends_told (Some k) false false true A B C D P Q R X S Y f g h i all p q r n = h 
 ends_told (Some k) false false false A B C D P Q R X S Y f g h i all p q r n = all k p q r n
 
 from_told : (p : SharedPort) (crew : Crew) (back : PhaseBack) (end : PhaseEnd)
-    → OverOr end (AreStopped p crew back) (ArePlayed p crew back)
+    → OverOr end (AreStopped p crew back) (PartsArePlayed p crew back)
     → Tells p crew back end
 from_told p crew back (Over n) h = h
 from_told p crew back Full h = h
@@ -290,7 +298,7 @@ module _ (p : SharedPort) (crew : Crew) (rest : PortSeat) (come : CrewBack) (bac
       → PlaysLine (m + 1) steps line played.line putter played.putter seen played.seat
       → PlaysClock (m + 2) ticks (list_seen crew.clock.seat) come.clock.seat
       → PlaysFlusher (name_of_port p) crew.flusher.run crew.flusher.seat n come.flusher.seat
-      → ArePlayed p crew back n
+      → PartsArePlayed p crew back n
   all_played n all l c f = record {
     callers = subst (EachCaller (PlayedAs p) 0 roles) (sym taken.callers_are) all;
     flusher = subst (PlaysFlusher (name_of_port p) crew.flusher.run crew.flusher.seat n) (sym taken.flusher_is) f;
@@ -299,10 +307,10 @@ module _ (p : SharedPort) (crew : Crew) (rest : PortSeat) (come : CrewBack) (bac
   }
 
   told : OverOr (end_of taken.next (come.callers.full || (taken.line_full || taken.clock_full))) Stopped
-      (ArePlayed p crew back)
+      (PartsArePlayed p crew back)
   told =
       ends_told taken.next come.callers.full taken.line_full taken.clock_full _ _ _ _ _ _ _ Stopped _
-      (ArePlayed p crew back)
+      (PartsArePlayed p crew back)
       by_callers by_line by_clock by_flusher all_played comes.callers.told
       (either_told come.line.result taken.line_full _ _ (λ d. IsFull (name_of_port p) d (list_seen played.seat))
       taken.line_told comes.line.ok comes.line.err comes.line.full)
@@ -317,5 +325,5 @@ module _ (p : SharedPort) (crew : Crew) (rest : PortSeat) (come : CrewBack) (bac
     callers = callers_back;
     session = ap list_seen taken.session_is ∙ fresh.session.seen;
     told = from_told p crew back back.end
-        (subst (λ (end : PhaseEnd). OverOr end Stopped (ArePlayed p crew back)) (sym taken.end_is) told);
+        (subst (λ (end : PhaseEnd). OverOr end Stopped (PartsArePlayed p crew back)) (sym taken.end_is) told);
   }

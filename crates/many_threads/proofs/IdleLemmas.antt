@@ -15,16 +15,17 @@ use Rattle.tty_terminal.specs.Steps.{after_answer, with_dropped, left_by, after_
 use Rattle.tty_terminal.specs.Runs.{Leads, is_of_call, phase_after}
 use Rattle.tty_terminal.specs.Standing.{Standing, standing_of, standing_after_own, standing_after_other, standing_after}
 use Rattle.tty_terminal.proofs.StandingLaws.{step_stands}
-use Rattle.journal_check.specs.Legal.{phase_at, name_at, has_script, IsCallerOf, IsInPhase}
-use Rattle.journal_check.specs.Legal.{AreInPhases, session_events, session_events_in}
-use Rattle.journal_check.proofs.FinishLemmas.{quiet_phase, other_stays, who_is, PlaysAt, plays_more}
-use Rattle.one_thread.proofs.LineSteps.{not_stuck}
+use Rattle.legal_runs.specs.Legal.{phase_at, name_at, has_script, IsCallerOf, IsInPhase, AreInPhases, session_events}
+use Rattle.legal_runs.specs.Legal.{session_events_in}
+use Rattle.legal_runs.proofs.EventLemmas.{quiet_phase}
+use Rattle.legal_runs.proofs.CallerLemmas.{other_stays, who_is, PlaysAt, plays_more}
+use Rattle.play_base.proofs.Meetings.{not_stuck}
 use Rattle.port_cell.specs.declared.kept.Stamped.{Stamped}
 use Rattle.tty_port.specs.Inside.{EntryWithCall}
 use Rattle.tty_port.specs.Histories.{call_by}
 use Rattle.tty_port.specs.Seen.{entries_in, led_to}
 use Rattle.tty_port.specs.Placed.{HaveCalls}
-use Rattle.journal_check.proofs.Truths.{nothing_first, nothing_rest}
+use Rattle.legal_runs.proofs.Truths.{nothing_first, nothing_rest}
 
 -- ---- the terminal that a history tells
 

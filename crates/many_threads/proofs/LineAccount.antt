@@ -10,13 +10,12 @@ use Rattle.uart_line.specs.LineState.{LineState}
 use Rattle.uart_line.specs.Received.{received_list, closed_script}
 use Rattle.uart_line.specs.Offered.{HandsOver, overrun_list}
 use Rattle.uart_line.proofs.OfferedLemmas.{HandsOver-trans}
-use Rattle.journal_check.specs.Legal.{received_before}
+use Rattle.legal_runs.specs.Legal.{received_before}
 use Rattle.port_core.specs.Ports.{PortValue}
-use Rattle.one_thread.specs.Roles.{Scene}
-use Rattle.one_thread.specs.Lines.{HasPut}
-use Rattle.one_thread.specs.LineInside.{KnowsTaken, SeesFrom}
-use Rattle.one_thread.specs.Phases.{SeesWithin}
-use Rattle.one_thread.proofs.LineLists.{All_later, loaded_since, refusals_see, overruns_see_most}
+use Rattle.play_base.specs.Roles.{Scene}
+use Rattle.play_base.specs.Putting.{HasPut, KnowsTaken, SeesFrom}
+use Rattle.play_base.specs.Phases.{SeesWithin}
+use Rattle.play_base.proofs.Refusals.{All_later, loaded_since, refusals_see, overruns_see_most}
 use Rattle.many_threads.specs.Parts.{RunsLine}
 
 pub has_put_runs : (v : PortValue) (putter met : PutterState Flagged) (line played : LineState)

@@ -11,7 +11,7 @@ use Rattle.tty_calls.specs.Plain.{PlainCall, PlainEvent, answered, parted, waite
 use Rattle.tty_calls.specs.Plain.{line_ended, clock_ended, caller_ended, phase_ended, hung_up, PlainEntry}
 use Rattle.tty_terminal.specs.Makers.{IsByItsMaker}
 use Rattle.tty_terminal.specs.Runs.{chars_of}
-use Rattle.journal_check.specs.Legal.{line_ends, line_ends_in}
+use Rattle.legal_runs.specs.Legal.{line_ends, line_ends_in}
 use Rattle.port_cell.specs.declared.kept.Stamped.{Stamped}
 use Rattle.port_cell.specs.Entries as histories
 use Rattle.port_cell.specs.Entries.{Keeps}

@@ -20,26 +20,26 @@ use Rattle.tty_terminal.specs.Standing.{standing_of}
 use Rattle.tty_terminal.specs.Steps.{follows}
 use Rattle.tty_terminal.specs.Runs.{AgreesOn}
 use Rattle.tty_terminal.proofs.Agreeing.{leads_agrees}
-use Rattle.journal_check.specs.Legal.{phase_at, received_before}
-use Rattle.journal_check.specs.Phases.{CompletesPhase}
+use Rattle.legal_runs.specs.Legal.{phase_at, received_before}
+use Rattle.legal_runs.specs.Phases.{CompletesPhase}
 use Rattle.port_core.specs.Ports.{PortValue, call_in}
 use Rattle.tty_port.specs.Seen.{run_after}
-use Rattle.one_thread.specs.Roles.{Scene, AreFirstSteps}
-use Rattle.one_thread.specs.Lines as lines
-use Rattle.one_thread.specs.Phases as phases
-use Rattle.one_thread.specs.Phases.{HavePlayed, IsPortOf, IsFullRun, IsAtEnd, IsUpTo}
-use Rattle.one_thread.specs.declared.phases.Station.{Station}
-use Rattle.one_thread.proofs.PhaseLemmas.{PlaysPart, played_more}
-use Rattle.one_thread.proofs.StationLemmas.{full_in_phase}
-use Rattle.one_thread.proofs.PortLemmas.{last_or, some_is}
+use Rattle.play_base.specs.Roles.{Scene, AreFirstSteps}
+use Rattle.play_base.specs.Beginning as lines
+use Rattle.play_base.specs.Phases as phases
+use Rattle.play_base.specs.Phases.{HavePlayed, IsPortOf, IsFullRun, IsAtEnd, IsUpTo}
+use Rattle.play_base.specs.declared.stations.Station.{Station}
+use Rattle.play_base.proofs.PhaseLemmas.{PlaysPart, played_more}
+use Rattle.play_base.proofs.FullRuns.{full_in_phase}
+use Rattle.play_base.proofs.PortLemmas.{last_or, some_is}
 use Rattle.many_threads.specs.Callers.{plain_cast}
 use Rattle.many_threads.specs.PhaseStarts.{IsOfSession, IsAtPhase, IsCast, CanPlayPhase, PlaysPhase, StopsPhase}
 use Rattle.many_threads.specs.PhaseEnds.{PhaseComes}
-use Rattle.many_threads.specs.InPlay.{IsBeforePhase, StandsBefore, CanEnd}
+use Rattle.many_threads.specs.InPlay.{IsBeforePhase, WerePlayedBefore, CanEnd}
 use Rattle.many_threads.specs.declared.shared_phase.PhaseWork.{PhaseWork}
 use Rattle.many_threads.specs.declared.shared_phase.PhaseEnd.{PhaseEnd}
 use Rattle.many_threads.specs.declared.shared_phase.PhaseEnd.TheVariants.{Over, Full}
-use Rattle.journal_check.proofs.NameLemmas.{get_append, get_past}
+use Rattle.legal_runs.proofs.NameLemmas.{get_append, get_past}
 
 -- ---- at the beginning
 
@@ -210,7 +210,7 @@ pub stands_next : (s : Scene) (k : ℕ) (old new station : Station) (run : ℕ) 
     → IsBeforePhase s k old run
     → PhaseComes s k old new end
     → AreFirstSteps s (k + 1) station.steps.items
-    → StandsBefore s (k + 1) station end
+    → WerePlayedBefore s (k + 1) station end
 stands_next s k old new station run (Over next) port putter line within before comes steps =
     before_next s k old new.port new.putter new.line station run
     next port putter line within before comes.0 comes.1 steps
@@ -238,7 +238,7 @@ over_all s station run h =
     ∙ length-map s.session.phases (λ phase. length (scripts_on s.port phase)))
 
 pub can_end : (s : Scene) (station : Station) (end : PhaseEnd)
-    → StandsBefore s (length s.session.phases) station end
+    → WerePlayedBefore s (length s.session.phases) station end
     → CanEnd station end
 can_end s station (Over run) h = (over_all s station run h, h.at_phase.has_put.ring, h.at_phase.sent)
 can_end s station Full h = h.1.has_put.ring

@@ -4,13 +4,14 @@ use Rattle.std.proofs.Common.{false, if◌then◌else◌, ne_eqb, Option, Some, 
 use Rattle.std.proofs.Common.{sym, ◌∙◌, ap, subst, arith, append_assoc, append-nil, length-append}
 use Rattle.std.specs.Prelude.{slice_get, All, OnErr, ◌^◌}
 use Rattle.std.proofs.lemmas.Option.{slice_get_within, get_or_from_slice_get}
+use Rattle.tty_base.specs.Sizes.{MOST_ASKED, MOST_HANDLES}
 use Rattle.tty_calls.specs.Limits.{byte_count, IsCallWithin}
 use Rattle.tty_base.specs.declared.characters.Flagged.{Flagged}
 use Rattle.tty_base.specs.declared.lines.LineStep.{LineStep}
 use Rattle.tty_base.specs.declared.lines.Overrun.{Overrun}
 use Rattle.word_ring.specs.Ends.{PutterState}
 use Rattle.uart_line.specs.LineState.{LineState}
-use Rattle.uart_line.specs.Offered.{HandsOver, accepted_list}
+use Rattle.uart_line.specs.Offered.{HandsOver, appended_list}
 use Rattle.tty_calls.specs.declared.journals.Who.{Who}
 use Rattle.tty_calls.specs.declared.journals.Who.TheVariants.{Caller, Clock}
 use Rattle.tty_calls.specs.Plain.{PlainCall, handle_of, PlainAnswer, PlainEvent, answered, parted, waited}
@@ -25,7 +26,7 @@ use Rattle.port_cell.specs.Knowledge.{number_of, list_seen, own_entries}
 use Rattle.port_cell.proofs.Histories.{each_append}
 use Rattle.tty_port.specs.Inside.{Name, EntryWithCall}
 use Rattle.tty_port.specs.Histories.{seat_of}
-use Rattle.tty_port.specs.Seen.{entries_in, marks_at, next_run, IsBetween}
+use Rattle.tty_port.specs.Seen.{entries_in, marks_at, next_run, IsBetweenCalls}
 use Rattle.tty_port.specs.Placed.{ArePlaced}
 use Rattle.tty_port.specs.Adding.{IsOf, IsEntry, IsOfStep}
 use Rattle.tty_port.specs.Calls.{PortSeat, IsPause, ArePauses, IsAnswered, Pauses}
@@ -35,9 +36,8 @@ use Rattle.tty_port.proofs.Histories.{marks_append}
 use Rattle.tty_port.proofs.FlushSteps.{run_kept}
 use Rattle.tty_port.proofs.Keeping.{clock_kept, placed_right, by_another}
 use Rattle.many_threads.specs.Parts as parts
-use Rattle.many_threads.specs.Parts.{IsOfCalls, IsOfRole, MakesInRole, PlaysCaller, MakesTicks}
-use Rattle.many_threads.specs.Parts.{StopsClock, PlaysClock, RunsLine, PlaysLine, RunMade, FlushesRuns}
-use Rattle.one_thread.proofs.Ready.{same_bytes}
+use Rattle.many_threads.specs.Parts.{IsOfRole, MakesInRole, PlaysCaller, MakesTicks}
+use Rattle.many_threads.specs.Parts.{PlaysClock, RunsLine, PlaysLine, RunMade, FlushesRuns}
 
 pub each_both : (P : Stamped EntryWithCall → Type 0) (xs ys : List (Stamped EntryWithCall))
     → parts.Each P xs
@@ -190,7 +190,7 @@ pub caller_plays : (c first step : ℕ) (calls : List PlainCall) (start : List (
     → number_of mid ≡ c
     → step ≡ first + length calls
     → MakesInRole c first calls start mid
-    → IsBetween c (first + length calls) (list_seen mid)
+    → IsBetweenCalls c (first + length calls) (list_seen mid)
     → MakesOne (λ before. IsEntry c (Caller c) step caller_ended) mid new
     → PlaysCaller c first calls start new
 caller_plays c first step calls start mid new number at h between one =
@@ -221,7 +221,7 @@ call_within calls i x all is =
 pub call_number : (calls : List PlainCall) (i : ℕ) (x : PlainCall)
     → All IsCallWithin calls
     → slice_get calls i ≡ Some x
-    → handle_of x < 32
+    → handle_of x < MOST_HANDLES
 call_number calls i x all is = (call_within calls i x all is).handle
 
 pub call_bytes : (calls : List PlainCall) (i : ℕ) (x : PlainCall)
@@ -229,8 +229,8 @@ pub call_bytes : (calls : List PlainCall) (i : ℕ) (x : PlainCall)
     → slice_get calls i ≡ Some x
     → byte_count x < 2 ^ 32
 call_bytes calls i x all is =
-    let most : byte_count x ≤ 65536 =
-    subst (λ (n : ℕ). n ≤ 65536) (sym (same_bytes x)) (call_within calls i x all is).bytes in
+    let most : byte_count x ≤ MOST_ASKED =
+    (call_within calls i x all is).bytes in
     omega arith
 
 -- ---- the clock
@@ -321,22 +321,6 @@ module _ (m n : ℕ) (phase : List (Stamped EntryWithCall) → ℕ) (old new : P
         ticks = omega arith;
       }
 
-pub ticks_stop : (n k most : ℕ) (start : List (Stamped EntryWithCall)) (mid new : PortSeat)
-    → number_of mid ≡ n
-    → k ≤ most
-    → MakesTicks k start mid
-    → MakesNone mid new
-    → StopsClock n most start new
-ticks_stop n k most start mid new number few h none =
-    record {
-      seen = list_seen mid;
-      begins = h.begins;
-      count = k;
-      within = few;
-      ticks = h.ticks;
-      found = subst (λ (i : ℕ). Keeps i (list_seen mid) (list_seen new)) number none.found;
-    }
-
 pub clock_plays : (n k : ℕ) (phase : List (Stamped EntryWithCall) → ℕ) (start : List (Stamped EntryWithCall))
     (mid new : PortSeat)
     → number_of mid ≡ n
@@ -363,7 +347,7 @@ pub puts_more : (known capacity : ℕ) (all all' sent sent' : List Flagged) (hea
     → HandsOver capacity all all' sent sent' heads heads' overruns overruns'
     → known ≤ length sent'
 puts_more known capacity all all' sent sent' heads heads' overruns overruns' few h =
-    omega (arith, ap length h.offers.accepts_rest, length-append sent (accepted_list h.list h.offers.answers))
+    omega (arith, ap length h.offers.appends_rest, length-append sent (appended_list h.list h.offers.answers))
 
 pub line_plays : (n : ℕ) (steps : List LineStep) (line played : LineState) (putter met now : PutterState Flagged)
     (old new : PortSeat)

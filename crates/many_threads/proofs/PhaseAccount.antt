@@ -24,23 +24,22 @@ use Rattle.tty_terminal.specs.Runs.{Leads, IsRun, chars_of}
 use Rattle.tty_terminal.specs.Standing.{standing_of}
 use Rattle.tty_terminal.specs.Marks.{Marks, marks_of}
 use Rattle.tty_terminal.proofs.Runs.{run_callers}
-use Rattle.journal_check.specs.Legal.{phase_at, name_at, has_script, first_step, steps_in, script_of_first}
-use Rattle.journal_check.specs.Legal.{session_events, session_events_in, received_before, AreInPhases}
-use Rattle.journal_check.specs.Phases.{HasPlayed, CompletesPhase}
-use Rattle.journal_check.proofs.FinishLemmas.{PlaysAt, plays_first, callers_complete, three_true}
+use Rattle.legal_runs.specs.Legal.{phase_at, name_at, has_script, first_step, steps_in, script_of_first, session_events}
+use Rattle.legal_runs.specs.Legal.{session_events_in, received_before, AreInPhases}
+use Rattle.legal_runs.specs.Phases.{HasPlayed, CompletesPhase}
+use Rattle.legal_runs.proofs.CallerLemmas.{PlaysAt, plays_first, callers_complete, three_true}
 use Rattle.port_core.specs.Flips.{MeetsTaker}
 use Rattle.port_core.specs.Ports.{PortValue}
-use Rattle.one_thread.specs.Roles.{Scene, PlainRole}
-use Rattle.one_thread.specs.Lines.{HasPut}
-use Rattle.one_thread.specs.LineInside.{KnowsTaken}
-use Rattle.one_thread.specs.declared.phases.Station.{Station}
-use Rattle.one_thread.proofs.JournalLemmas.{leads_both, none_ends}
-use Rattle.one_thread.proofs.LineLists.{All_front}
-use Rattle.one_thread.proofs.LineSteps.{has_put_met, has_put_at}
-use Rattle.one_thread.proofs.NameLemmas.{few_names}
-use Rattle.one_thread.proofs.PhaseLemmas.{phase_stays}
-use Rattle.one_thread.proofs.ReceivedLemmas.{kept_later}
-use Rattle.one_thread.proofs.RoleLemmas.{sum_counts}
+use Rattle.play_base.specs.Roles.{Scene, PlainRole}
+use Rattle.play_base.specs.Putting.{HasPut, KnowsTaken}
+use Rattle.play_base.specs.declared.stations.Station.{Station}
+use Rattle.play_base.proofs.JournalLemmas.{leads_both, none_ends}
+use Rattle.play_base.proofs.Refusals.{All_front}
+use Rattle.play_base.proofs.Meetings.{has_put_met, has_put_at}
+use Rattle.play_base.proofs.NameLemmas.{few_names}
+use Rattle.play_base.proofs.PhaseLemmas.{phase_stays}
+use Rattle.play_base.proofs.ReceivedLemmas.{kept_later}
+use Rattle.play_base.proofs.RoleLemmas.{sum_counts}
 use Rattle.port_cell.specs.declared.kept.Stamped.{Stamped}
 use Rattle.port_cell.specs.Entries.{Keeps, Begins}
 use Rattle.port_cell.specs.Knowledge.{list_seen}
@@ -50,7 +49,7 @@ use Rattle.tty_port.specs.Histories.{history_in, name_in}
 use Rattle.tty_port.specs.Seen.{entries_in, marks_at, chars_at, led_to, next_run, terminal_at, run_after}
 use Rattle.tty_port.specs.Placed.{ArePlaced, HaveCalls, IsHistoryOf}
 use Rattle.tty_port.specs.Calls.{PortSeat}
-use Rattle.tty_port.specs.Lines.{Meets}
+use Rattle.tty_port.specs.Lines.{MeetsFlip}
 use Rattle.tty_port.specs.Shared.{IsHere, HasAllOf, name_of_port, opening_history}
 use Rattle.tty_port.specs.declared.shared.SharedPort.{SharedPort}
 use Rattle.tty_port.proofs.Histories.{entries_append, is_history, port_marks}
@@ -67,7 +66,7 @@ use Rattle.many_threads.specs.Callers.{EachCaller, IsBack, SomeSawFull}
 use Rattle.many_threads.specs.Crew.{cast_of, crew_in, seats_of}
 use Rattle.many_threads.specs.Seats.{AreDealt}
 use Rattle.many_threads.specs.PhaseStarts.{IsAtPhase, IsCast, CanPlayPhase, StopsPhase}
-use Rattle.many_threads.specs.PhaseEnds.{all_seats, IsShared, IsClosed, ArePlayed, AreStopped}
+use Rattle.many_threads.specs.PhaseEnds.{all_seats, IsShared, IsClosed, PartsArePlayed, AreStopped}
 use Rattle.many_threads.specs.PhaseEnds.{Tells, ThreadsCome, PlaysThreads, ThreadsLeave}
 use Rattle.many_threads.proofs.CrewLemmas.{cast_length}
 use Rattle.many_threads.proofs.PartLemmas.{placed_left, flusher_begins}
@@ -78,8 +77,8 @@ use Rattle.many_threads.proofs.PortAccount.{IsPartOf, leads_split, part_of, have
 use Rattle.many_threads.proofs.LineEnds.{none_of_line, line_parts, chars_before}
 use Rattle.many_threads.proofs.IdleLemmas.{led_as_run, have_left, IsIdle, none_follow, in_phases_left}
 use Rattle.many_threads.proofs.IdleLemmas.{in_phases_right, plays_on, RestsAt, rests_on, at_rest, rested}
-use Rattle.journal_check.proofs.ReceiptLemmas.{first_more}
-use Rattle.journal_check.proofs.Truths.{nothing_first, nothing_rest}
+use Rattle.legal_runs.proofs.LineLemmas.{first_more}
+use Rattle.legal_runs.proofs.Truths.{nothing_first, nothing_rest}
 
 -- ---- seats
 
@@ -149,7 +148,7 @@ is_played false first count next over is h = absurd (false≢true is)
 put_meets : (v : PortValue) (met now : PutterState Flagged) (played : LineState) (steps : List LineStep)
     (taken : List Flagged)
     → HasPut v met played steps
-    → Meets taken met now
+    → MeetsFlip taken met now
     → HasPut v now played steps
 put_meets v met now played steps taken put meets =
     let u : PortValue = record v { flip = record v.flip { taken = taken } } in
@@ -164,14 +163,14 @@ put_meets v met now played steps taken put meets =
     (has_put_met u met now played steps (has_put_at v u met played steps refl refl put) m)
 
 heads_meet : (met now : PutterState Flagged) (taken : List Flagged)
-    → Meets taken met now
+    → MeetsFlip taken met now
     → All (λ h. h ≤ length taken) met.heads
 heads_meet met now taken meets =
     let heads : now.heads ≡ met.heads ++ length taken ∷ [] = ap (λ (p : PutterState Flagged). p.heads) meets.putter in
     All_front (λ h. h ≤ length taken) met.heads (length taken ∷ [])
     (subst (All (λ h. h ≤ length taken)) heads meets.heads)
 
-sent_meets : (met now : PutterState Flagged) (taken : List Flagged) → Meets taken met now → now.sent ≡ met.sent
+sent_meets : (met now : PutterState Flagged) (taken : List Flagged) → MeetsFlip taken met now → now.sent ≡ met.sent
 sent_meets met now taken meets = ap (λ (p : PutterState Flagged). p.sent) meets.putter
 
 -- ---- a phase
@@ -351,7 +350,7 @@ module _ (s : Scene) (p : SharedPort) (crew : Crew) (rest : PortSeat) (v w : Por
 
   -- ---- the phase may end
 
-  module _ (next : ℕ) (played : ArePlayed p crew back next) where
+  module _ (next : ℕ) (played : PartsArePlayed p crew back next) where
     abbrev zs : List (Stamped EntryWithCall)
     zs = list_seen back.seats.flusher
 

@@ -15,22 +15,22 @@ use Rattle.tty_terminal.specs.Steps.{next_phase}
 use Rattle.tty_terminal.specs.Runs.{AgreesAt, AgreesOn}
 use Rattle.tty_terminal.specs.Standing.{Standing, standing_of}
 use Rattle.tty_terminal.proofs.StandingLaws.{step_stands}
-use Rattle.journal_check.specs.Legal.{phase_at, name_at, has_script, script_of_first, received_before, AreInPhases}
-use Rattle.journal_check.specs.Phases.{CompletesPhase}
-use Rattle.journal_check.proofs.FinishLemmas.{played_next}
+use Rattle.legal_runs.specs.Legal.{phase_at, name_at, has_script, script_of_first, received_before, AreInPhases}
+use Rattle.legal_runs.specs.Phases.{CompletesPhase}
+use Rattle.legal_runs.proofs.CallerLemmas.{played_next}
 use Rattle.port_core.specs.Flips.{after_meeting}
 use Rattle.port_core.specs.Phases.{EndsPhase}
 use Rattle.port_core.specs.Ports.{PortValue, call_in, phase_entry}
-use Rattle.one_thread.specs.Roles.{Scene}
-use Rattle.one_thread.proofs.LineSteps.{has_put_met, has_put_at, sent_met}
-use Rattle.one_thread.proofs.Places.{in_phases_more}
+use Rattle.play_base.specs.Roles.{Scene}
+use Rattle.play_base.proofs.Meetings.{has_put_met, has_put_at, sent_met}
+use Rattle.one_order.proofs.Places.{in_phases_more}
 use Rattle.tty_port.specs.Seen.{run_after}
-use Rattle.one_thread.specs.declared.phases.Station.{Station}
+use Rattle.play_base.specs.declared.stations.Station.{Station}
 use Rattle.many_threads.specs.declared.shared_phase.PhaseWork.{PhaseWork}
 use Rattle.many_threads.specs.declared.shared_phase.PhaseEnd.{PhaseEnd}
 use Rattle.many_threads.specs.declared.shared_phase.PhaseEnd.TheVariants.{Over, Full}
 use Rattle.many_threads.specs.PhaseStarts.{IsOfSession, IsAtPhase, CanPlayPhase, PlaysPhase, StopsPhase}
-use Rattle.many_threads.specs.PhaseEnds.{PlaysThreads, ThreadsLeave, EndsOrStops, PhaseComes}
+use Rattle.many_threads.specs.PhaseEnds.{CanFinish, PlaysThreads, ThreadsLeave, EndsOrStops, PhaseComes}
 
 agrees_push : (f g : ℕ → ℕ → Option PlainCall) (es : List PlainEntry) (e : PlainEntry)
     → AgreesOn f g es
@@ -229,3 +229,9 @@ phase_comes s old left u last work next Full can h ends =
     subst (λ (x : PortValue). StopsPhase s work.phase old.port x last old.line left.line) (sym ends.1)
     (subst (λ (q : PutterState Flagged). StopsPhase s work.phase old.port left.port q old.line left.line) (sym ends.2)
     stops)
+
+pub can_finish : (s : Scene) (k : ℕ) (old left : Station) (end : PhaseEnd)
+    → ThreadsLeave s k old left end
+    → CanFinish left end
+can_finish s k old left (Over next) h = (h.may, h.has_put.ring)
+can_finish s k old left Full h = tt

@@ -2,6 +2,7 @@
 use Rattle.std.specs.Prelude.{sum, slice_get}
 use Rattle.std.proofs.Common.{◌≡◌, ℕ, suc, ◌+◌, ◌<◌, ◌≤◌, List, [], ◌∷◌, false, Option, Some}
 use Rattle.std.proofs.Common.{None, length, refl, sym, ◌∙◌, ap, subst, arith, zero-add}
+use Rattle.tty_base.specs.Sizes.{MOST_CALLER_SEATS}
 use Rattle.tty_base.specs.declared.characters.Flagged.{Flagged}
 use Rattle.tty_base.specs.declared.lines.LineStep.{LineStep}
 use Rattle.tty_base.specs.Lines.{arrival_count}
@@ -12,17 +13,17 @@ use Rattle.tty_calls.specs.Limits.{IsWithinLimits}
 use Rattle.tty_terminal.specs.Terminals.{caller_at}
 use Rattle.tty_terminal.specs.Standing.{Standing, standing_of}
 use Rattle.tty_terminal.specs.Marks.{Marks, marks_of}
-use Rattle.journal_check.specs.Legal.{phase_at, first_step, script_of_first}
+use Rattle.legal_runs.specs.Legal.{phase_at, first_step, script_of_first}
 use Rattle.port_core.specs.Flips.{MeetsTaker, after_meeting}
 use Rattle.port_core.specs.Ports.{PortValue}
-use Rattle.one_thread.specs.Roles.{Scene, PlainRole, IsRoleOf}
-use Rattle.one_thread.proofs.LineSteps.{has_put_met, has_put_at, sent_met}
-use Rattle.one_thread.proofs.ReceivedLemmas.{arrivals_fit}
-use Rattle.one_thread.proofs.RoleLemmas.{few_scripts, sum_counts}
-use Rattle.one_thread.specs.declared.phases.Station.{Station}
+use Rattle.play_base.specs.Roles.{Scene, PlainRole, IsRoleOf}
+use Rattle.play_base.proofs.Meetings.{has_put_met, has_put_at, sent_met}
+use Rattle.play_base.proofs.ReceivedLemmas.{arrivals_fit}
+use Rattle.play_base.proofs.RoleLemmas.{few_scripts, sum_counts}
+use Rattle.play_base.specs.declared.stations.Station.{Station}
 use Rattle.port_cell.specs.declared.kept.Stamped.{Stamped}
 use Rattle.tty_port.specs.Inside.{Name, EntryWithCall}
-use Rattle.tty_port.specs.Seen.{standing_at, marks_at, next_run, run_after, IsBetween}
+use Rattle.tty_port.specs.Seen.{standing_at, marks_at, next_run, run_after, IsBetweenCalls}
 use Rattle.tty_port.specs.Shared.{name_of_port, opening_history}
 use Rattle.tty_port.specs.declared.shared.SharedPort.{SharedPort}
 use Rattle.tty_port.proofs.Histories.{port_stands, port_marks}
@@ -33,8 +34,8 @@ use Rattle.many_threads.specs.Crew.{CanRun, crew_in}
 use Rattle.many_threads.specs.PhaseStarts.{IsOfSession, IsAtPhase, IsCast, CanPlayPhase}
 use Rattle.many_threads.specs.PhaseEnds.{IsShared}
 use Rattle.many_threads.proofs.CrewLemmas.{cast_length}
-use Rattle.journal_check.proofs.NameLemmas.{first_next}
-use Rattle.journal_check.proofs.TurnLemmas.{first_few}
+use Rattle.legal_runs.proofs.NameLemmas.{first_next}
+use Rattle.legal_runs.proofs.ScriptLemmas.{first_few}
 
 -- ---- both ends meet before the phase
 
@@ -76,11 +77,13 @@ can_play_met s old met now work is meets can = record {
 
 -- ---- seats
 
-pub few_callers : (s : Scene) (v : PortValue) → IsWithinLimits s.session → IsOfSession s v → sum v.counts ≤ 4092
+pub few_callers : (s : Scene) (v : PortValue) → IsWithinLimits s.session → IsOfSession s v
+    → sum v.counts ≤ MOST_CALLER_SEATS
 few_callers s v limits of_session =
     omega (arith, few_scripts s.port s.session limits, sum_counts s.port s.session, ap sum of_session.counts)
 
-pub few_in_cast : (s : Scene) (old : Station) (work : PhaseWork) → CanPlayPhase s old work → length work.cast.now ≤ 4092
+pub few_in_cast : (s : Scene) (old : Station) (work : PhaseWork) → CanPlayPhase s old work
+    → length work.cast.now ≤ MOST_CALLER_SEATS
 few_in_cast s old work can =
     let few = few_callers s old.port can.limits can.at_phase.of_session in
     let size = cast_length work.scripts.now work.cast.now in
@@ -120,7 +123,7 @@ module _ (s : Scene) (k m : ℕ) (v : PortValue) (p : SharedPort) (seats : Seats
       let most = start.most in
       omega (arith, fit, count, arrived, most)
 
-  between_opens : (c first : ℕ) → first ≡ first_step s.port s.session k c → IsBetween c first (opening_history p)
+  between_opens : (c first : ℕ) → first ≡ first_step s.port s.session k c → IsBetweenCalls c first (opening_history p)
   between_opens c first is =
       let stands : standing_at c (opening_history p) ≡ standing_of (caller_at v.terminal c) =
       ap (standing_at c) shared.opening ∙ sym (port_stands m v shared.port c) in

@@ -9,12 +9,12 @@ use Rattle.tty_terminal.specs.Terminals.{Terminal, opening}
 use Rattle.tty_terminal.specs.Steps.{after}
 use Rattle.tty_terminal.specs.Runs.{Leads, IsRun, is_of_call, AgreesAt, AgreesOn, phase_after}
 use Rattle.tty_terminal.proofs.Agreeing.{leads_agrees}
-use Rattle.journal_check.specs.Legal.{session_events_in, AreInPhases}
+use Rattle.legal_runs.specs.Legal.{session_events_in, AreInPhases}
 use Rattle.port_core.specs.Ports.{PortValue, IsPort, call_in}
 use Rattle.port_cell.specs.declared.kept.Stamped.{Stamped}
 use Rattle.port_cell.specs.Entries.{Keeps}
-use Rattle.one_thread.specs.Roles.{Scene, PlainRole}
-use Rattle.one_thread.proofs.Places.{phase_from, leads_phase}
+use Rattle.play_base.specs.Roles.{Scene, PlainRole}
+use Rattle.one_order.proofs.Places.{phase_from, leads_phase}
 use Rattle.tty_port.specs.Inside.{Name, EntryWithCall}
 use Rattle.tty_port.specs.Histories.{call_by, history, history_in, name_in}
 use Rattle.tty_port.specs.Seen.{entries_in}
@@ -25,7 +25,7 @@ use Rattle.many_threads.specs.Parts as parts
 use Rattle.many_threads.specs.PhaseStarts.{IsOfSession, IsCast}
 use Rattle.many_threads.proofs.AccountLemmas.{IsOfPhase, AllInRoles, all_of_phase}
 use Rattle.many_threads.proofs.AccountLemmas.{calls_of_phase, none_of_session, phases_of_phase}
-use Rattle.journal_check.proofs.Truths.{if_true}
+use Rattle.legal_runs.proofs.Truths.{if_true}
 
 -- ---- calls
 

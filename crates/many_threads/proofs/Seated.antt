@@ -6,9 +6,9 @@ use Rattle.std.proofs.lemmas.List.{length-set, length-replicate, get_or-set_same
 use Rattle.std.proofs.lemmas.List.Elements.{All-head, All-tail, All-nil, All-cons}
 use Rattle.tty_calls.specs.declared.sessions.Script.{Script}
 use Rattle.tty_calls.specs.Sessions.{counts_on}
-use Rattle.one_thread.specs.Roles.{Scene, PlainRole, IsRoleOf, AreRolesOf, numbers_in, role_in}
-use Rattle.one_thread.specs.declared.roles.Role.{Role}
-use Rattle.one_thread.proofs.PortLemmas.{some_is}
+use Rattle.play_base.specs.Roles.{Scene, PlainRole, IsRoleOf, AreRolesOf, numbers_in, role_in}
+use Rattle.play_base.specs.declared.roles.Role.{Role}
+use Rattle.play_base.proofs.PortLemmas.{some_is}
 use Rattle.many_threads.specs.Callers.{plain_role, plain_cast}
 use Rattle.many_threads.specs.PhaseStarts.{IsCast}
 use Rattle.many_threads.specs.Cast.{seated}

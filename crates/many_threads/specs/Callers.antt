@@ -5,11 +5,11 @@ use Rattle.tty_calls.specs.declared.answers.Denied.{Denied}
 use Rattle.tty_calls.specs.declared.answers.Denied.TheVariants.{NoMemory, Full}
 use Rattle.tty_calls.specs.declared.sessions.Script.{Script}
 use Rattle.tty_calls.specs.Limits.{IsCallWithin}
-use Rattle.one_thread.specs.Roles.{PlainRole, role_in}
-use Rattle.one_thread.specs.declared.roles.Role.{Role}
+use Rattle.play_base.specs.Roles.{PlainRole, role_in}
+use Rattle.play_base.specs.declared.roles.Role.{Role}
 use Rattle.port_cell.specs.Knowledge.{list_seen}
 use Rattle.tty_port.specs.Inside.{Name}
-use Rattle.tty_port.specs.Seen.{IsBetween}
+use Rattle.tty_port.specs.Seen.{IsBetweenCalls}
 use Rattle.tty_port.specs.Calls.{PortSeat}
 use Rattle.tty_port.specs.Shared.{IsHere, name_of_port, opening_history}
 use Rattle.tty_port.specs.declared.shared.SharedPort.{SharedPort}
@@ -30,7 +30,7 @@ pub record IsPlayable (p : SharedPort) (n : ℕ) (r : PlainRole) : Type 0 where
   pub known : n < sum (name_of_port p).counts
   pub within : All IsCallWithin r.calls
   pub few : r.first + length r.calls < 2 ^ 32
-  pub between : IsBetween n r.first (opening_history p)
+  pub between : IsBetweenCalls n r.first (opening_history p)
 
 abbrev pub CanPlay : SharedPort → ℕ → Option PlainRole → Type 0
 CanPlay p n None = Unit {0}
@@ -73,9 +73,9 @@ pub record CallersCome (p : SharedPort) (roles : List (Option PlainRole)) (back 
       (EachCaller (PlayedAs p) 0 roles back.seats.items)
 
 -- whether an outcome says that the journal is full; want of memory is told otherwise
-abbrev pub IsTold : Result (Unit {0}) Denied → Bool → Type 0
-IsTold (Ok v) true = ⊥
-IsTold (Ok v) false = Unit {0}
-IsTold (Err Full) true = Unit {0}
-IsTold (Err Full) false = ⊥
-IsTold (Err NoMemory) full = ⊥
+abbrev pub TellsFull : Result (Unit {0}) Denied → Bool → Type 0
+TellsFull (Ok v) true = ⊥
+TellsFull (Ok v) false = Unit {0}
+TellsFull (Err Full) true = Unit {0}
+TellsFull (Err Full) false = ⊥
+TellsFull (Err NoMemory) full = ⊥

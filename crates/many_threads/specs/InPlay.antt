@@ -1,13 +1,11 @@
--- How far the playing of ports on threads has come, phase by phase.
-use Rattle.std.specs.Prelude.{◌≡◌, ℕ, List, Some, length, sum, slice_get}
-use Rattle.tty_calls.specs.Sessions.{PlainSession, counts_on}
-use Rattle.one_thread.specs.Roles.{Scene, names_in, AreFirstSteps}
-use Rattle.one_thread.specs.Phases.{HavePlayed, IsPortOf, IsFullRun}
-use Rattle.one_thread.specs.declared.phases.Station.{Station}
+-- How far the playing of a port on threads has come, phase by phase.
+use Rattle.std.specs.Prelude.{◌≡◌, ℕ, length}
+use Rattle.play_base.specs.Roles.{Scene, AreFirstSteps}
+use Rattle.play_base.specs.Phases.{HavePlayed, IsPortOf, IsFullRun}
+use Rattle.play_base.specs.declared.stations.Station.{Station}
 use Rattle.many_threads.specs.PhaseStarts.{IsAtPhase}
 use Rattle.many_threads.specs.declared.shared_phase.PhaseEnd.{PhaseEnd}
 use Rattle.many_threads.specs.declared.shared_phase.PhaseEnd.TheVariants.{Over, Full}
-use Rattle.many_threads.specs.declared.ports.PortInPlay.{PortInPlay}
 
 -- a port, the putting end of its flip buffer, its line, and the next steps of its callers at the beginning of phase k
 pub record IsBeforePhase (s : Scene) (k : ℕ) (station : Station) (run : ℕ) : Type 0 where
@@ -16,22 +14,9 @@ pub record IsBeforePhase (s : Scene) (k : ℕ) (station : Station) (run : ℕ) :
   pub played : HavePlayed s k station.port.journal station.line.report.overruns.items
 
 -- the phases before phase k were played, or the journal is full
-abbrev pub StandsBefore : Scene → ℕ → Station → PhaseEnd → Type 0
-StandsBefore s k station (Over run) = IsBeforePhase s k station run
-StandsBefore s k station Full = IsPortOf s station.port × IsFullRun s station.port station.putter station.line
-
-pub record IsInPlay (s : Scene) (k : ℕ) (p : PortInPlay) : Type 0 where
-  pub number : p.number ≡ s.port
-  pub names : p.names ≡ names_in s
-  pub callers : p.callers ≡ sum (counts_on s.port s.session)
-  pub stands : StandsBefore s k p.station p.end
-
--- each of these ports, which begin with port 0
-abbrev pub AreInPlay : PlainSession → ℕ → List PortInPlay → Type 0
-AreInPlay session k ports =
-    (p : ℕ) (port : PortInPlay)
-    → slice_get ports p ≡ Some port
-    → IsInPlay (record { port = p; session = session }) k port
+abbrev pub WerePlayedBefore : Scene → ℕ → Station → PhaseEnd → Type 0
+WerePlayedBefore s k station (Over run) = IsBeforePhase s k station run
+WerePlayedBefore s k station Full = IsPortOf s station.port × IsFullRun s station.port station.putter station.line
 
 -- what a port is like that can be hung up, or is full
 abbrev pub CanEnd : Station → PhaseEnd → Type 0

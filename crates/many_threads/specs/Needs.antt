@@ -1,12 +1,13 @@
 -- What each thread of a phase needs at its beginning: a seat of its own, and that its part is still to come.
 use Rattle.std.specs.Prelude.{◌≡◌, ◌+◌, ◌-◌, ◌<◌, ◌≤◌, ◌^◌, ℕ, List, false, IsTrue, All, length, sum}
+use Rattle.tty_base.specs.Sizes.{MOST_SENT}
 use Rattle.tty_base.specs.declared.lines.LineStep.{LineStep}
 use Rattle.tty_base.specs.Lines.{is_step, arrival_count}
 use Rattle.uart_line.specs.LineState.{HasDone}
 use Rattle.tty_calls.specs.Plain.{PlainCall}
 use Rattle.tty_calls.specs.Limits.{IsCallWithin}
 use Rattle.port_cell.specs.Knowledge.{list_seen}
-use Rattle.tty_port.specs.Seen.{IsBetween, marks_at, next_run}
+use Rattle.tty_port.specs.Seen.{IsBetweenCalls, marks_at, next_run}
 use Rattle.tty_port.specs.Calls.{PortSeat}
 use Rattle.tty_port.specs.Shared.{IsHere, name_of_port}
 use Rattle.tty_port.specs.declared.shared.SharedPort.{SharedPort}
@@ -18,7 +19,7 @@ pub record CanPlayCaller (p : SharedPort) (c first : ℕ) (calls : List PlainCal
   pub known : c < sum (name_of_port p).counts
   pub within : All IsCallWithin calls
   pub few : first + length calls < 2 ^ 32
-  pub between : IsBetween c first (list_seen seat)
+  pub between : IsBetweenCalls c first (list_seen seat)
 
 pub record CanPlayClock (p : SharedPort) (seat : PortSeat) : Type 0 where
   pub here : IsHere p ((name_of_port p).callers + 2) seat
@@ -38,4 +39,4 @@ pub record CanPlayLine (p : SharedPort) (receiver : Receiver) (steps : List Line
   pub done : (before : List LineStep) × HasDone receiver.line before
   pub good : All (λ step. IsTrue (is_step step)) steps
   pub room : receiver.line.report.arrived + arrival_count steps ≤ receiver.line.most
-  pub put : receiver.line.most ≤ (2 ^ 63 - length receiver.putter.sent) + receiver.line.handed
+  pub put : receiver.line.most ≤ (MOST_SENT - length receiver.putter.sent) + receiver.line.handed

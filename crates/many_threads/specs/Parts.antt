@@ -1,6 +1,7 @@
 -- What each thread of a phase did, as its seat knows it: from the history that it had seen at the start.
-use Rattle.std.specs.Prelude.{◌≡◌, ◌⊎◌, ℕ, ◌+◌, ◌-◌, ◌^◌, ◌≤◌, List, [], ◌∷◌, ◌++◌, true, Some, length, slice_get}
+use Rattle.std.specs.Prelude.{◌≡◌, ◌⊎◌, ℕ, ◌+◌, ◌-◌, ◌≤◌, List, [], ◌∷◌, ◌++◌, true, Some, length, slice_get}
 use Rattle.std.specs.List.Sorted.{IsNonDecreasing}
+use Rattle.tty_base.specs.Sizes.{MOST_SENT}
 use Rattle.tty_base.specs.declared.characters.Flagged.{Flagged}
 use Rattle.tty_base.specs.declared.lines.LineStep.{LineStep}
 use Rattle.tty_base.specs.Lines.{arrival_count}
@@ -15,7 +16,7 @@ use Rattle.port_cell.specs.declared.kept.Stamped.{Stamped}
 use Rattle.port_cell.specs.Entries.{Keeps, Begins, entries_by}
 use Rattle.port_cell.specs.Knowledge.{list_seen, own_entries}
 use Rattle.tty_port.specs.Inside.{Name, EntryWithCall}
-use Rattle.tty_port.specs.Seen.{marks_at, next_run, terminal_at, IsBetween}
+use Rattle.tty_port.specs.Seen.{marks_at, next_run, terminal_at, IsBetweenCalls}
 use Rattle.tty_port.specs.Adding.{IsEntry, IsOfStep}
 use Rattle.tty_port.specs.Calls.{PortSeat}
 use Rattle.tty_port.specs.Flushing.{FlushesRun, HasNothingLeft, run_past}
@@ -53,7 +54,7 @@ pub record PlaysCaller (c first : ℕ) (calls : List PlainCall) (start : List (S
   -- the history as the caller saw it after its last call, and as it found it at its end
   pub seen : List (Stamped EntryWithCall)
   pub begins : Begins start seen
-  pub answered : IsBetween c (first + length calls) seen
+  pub answered : IsBetweenCalls c (first + length calls) seen
   pub before : List (Stamped EntryWithCall)
   pub found : Keeps c seen before
   pub last : Stamped EntryWithCall
@@ -100,7 +101,7 @@ pub record RunsLine (steps : List LineStep) (old new : LineState) (putter now : 
   pub capacity : now.capacity ≡ putter.capacity
   pub most : new.most ≡ old.most
   pub arrived : new.report.arrived ≡ old.report.arrived + arrival_count steps
-  pub room : new.most ≤ (2 ^ 63 - length now.sent) + new.handed
+  pub room : new.most ≤ (MOST_SENT - length now.sent) + new.handed
   pub rise : IsNonDecreasing putter.heads → IsNonDecreasing now.heads
 
 -- the line did these steps, was closed, and then, by the seat with this number, is over with the number of all that was

@@ -12,12 +12,12 @@ use Rattle.tty_calls.specs.Sessions.{call_at, counts_on}
 use Rattle.tty_terminal.specs.Terminals.{caller_at, has_begun}
 use Rattle.tty_terminal.specs.Steps.{may_end}
 use Rattle.tty_terminal.specs.Runs.{Leads, chars_of}
-use Rattle.journal_check.specs.Legal.{script_of_first, session_events_in, line_ends_in, received_before}
-use Rattle.journal_check.specs.Phases.{CompletesPhase}
+use Rattle.legal_runs.specs.Legal.{script_of_first, session_events_in, line_ends_in, received_before}
+use Rattle.legal_runs.specs.Phases.{CompletesPhase}
 use Rattle.port_core.specs.Phases as ports
 use Rattle.port_core.specs.Ports.{PortValue, IsPort}
-use Rattle.one_thread.specs.Roles.{Scene}
-use Rattle.one_thread.specs.Lines.{HasPut}
+use Rattle.play_base.specs.Roles.{Scene}
+use Rattle.play_base.specs.Putting.{HasPut}
 use Rattle.port_cell.specs.Seats.{EachSeat}
 use Rattle.port_cell.specs.Knowledge.{list_seen}
 use Rattle.tty_port.specs.Histories.{history_in, name_in}
@@ -33,11 +33,11 @@ use Rattle.many_threads.specs.declared.shared_phase.PhaseEnd.{PhaseEnd}
 use Rattle.many_threads.specs.declared.shared_phase.PhaseEnd.TheVariants.{Over, Full}
 use Rattle.many_threads.specs.declared.shared_phase.PhaseBack.{PhaseBack}
 use Rattle.many_threads.specs.Parts.{StopsClock, PlaysClock, RunsLine, PlaysLine, PlaysFlusher}
-use Rattle.many_threads.specs.Callers.{EachCaller, IsBack, PlayedAs, SomeSawFull, IsTold}
+use Rattle.many_threads.specs.Callers.{EachCaller, IsBack, PlayedAs, SomeSawFull, TellsFull}
 use Rattle.many_threads.specs.Seats.{AreDealt}
 use Rattle.many_threads.specs.Crew.{cast_of}
-use Rattle.one_thread.specs.Phases.{SeesWithin}
-use Rattle.one_thread.specs.declared.phases.Station.{Station}
+use Rattle.play_base.specs.Phases.{SeesWithin}
+use Rattle.play_base.specs.declared.stations.Station.{Station}
 use Rattle.many_threads.specs.PhaseStarts.{IsOfSession, IsAtPhase, PlaysPhase, StopsPhase}
 
 -- ---- the seats
@@ -99,15 +99,15 @@ pub record AreTaken (crew : CrewBack) (session : PortSeat) (back : PhaseBack) : 
   pub played_is : back.line ≡ crew.line.receiver.line
   pub putter_is : back.putter ≡ crew.line.receiver.putter
   pub line_full : Bool
-  pub line_told : IsTold crew.line.result line_full
+  pub line_told : TellsFull crew.line.result line_full
   pub clock_full : Bool
-  pub clock_told : IsTold crew.clock.result clock_full
+  pub clock_told : TellsFull crew.clock.result clock_full
   pub next : Option ℕ
   pub next_told : IsNextTold crew.flusher.result next
   pub end_is : back.end ≡ end_of next (crew.callers.full || (line_full || clock_full))
 
 -- every thread has played its part
-pub record ArePlayed (p : SharedPort) (crew : Crew) (back : PhaseBack) (next : ℕ) : Type 0 where
+pub record PartsArePlayed (p : SharedPort) (crew : Crew) (back : PhaseBack) (next : ℕ) : Type 0 where
   pub callers : EachCaller (PlayedAs p) 0 (cast_of crew.callers) back.seats.callers.items
   pub flusher : PlaysFlusher (name_of_port p) crew.flusher.run crew.flusher.seat next back.seats.flusher
   pub line_plays : PlaysLine ((name_of_port p).callers + 1) crew.line.steps.now.items crew.line.receiver.line back.line
@@ -124,7 +124,7 @@ pub record AreStopped (p : SharedPort) (crew : Crew) (back : PhaseBack) : Type 0
       ⊎ StopsClock ((name_of_port p).callers + 2) crew.clock.ticks (opening_history p) back.seats.clock
 
 abbrev pub Tells : SharedPort → Crew → PhaseBack → PhaseEnd → Type 0
-Tells p crew back (Over next) = ArePlayed p crew back next
+Tells p crew back (Over next) = PartsArePlayed p crew back next
 Tells p crew back Full = AreStopped p crew back
 
 pub record ThreadsCome (p : SharedPort) (crew : Crew) (back : PhaseBack) : Type 0 where
@@ -179,3 +179,9 @@ PhaseComes s k old new (Over next) =
     IsAtPhase s (k + 1) new.port new.putter new.line next
     × PlaysPhase s k old.port new.port new.putter old.line new.line
 PhaseComes s k old new Full = StopsPhase s k old.port new.port new.putter old.line new.line
+
+-- the phase of a port may end, where its flusher would go on
+abbrev pub CanFinish : Station → PhaseEnd → Type 0
+CanFinish station (Over next) =
+    (may_end station.port.counts station.port.terminal ≡ true) × (station.putter.ring ≡ station.port.flip.ring)
+CanFinish station Full = Unit {0}

@@ -1,6 +1,7 @@
 -- A port, the putting end of its flip buffer, and its line at the beginning of a phase.
 use Rattle.std.specs.Prelude.{◌≡◌, ◌<◌, ◌≤◌, ◌+◌, ℕ, List, [], ◌∷◌, ◌++◌, false}
 use Rattle.std.specs.Prelude.{IsTrue, Option, Some, All, length, sum, slice_get}
+use Rattle.tty_base.specs.Sizes.{MOST_ENTRIES}
 use Rattle.tty_base.specs.declared.characters.Flagged.{Flagged}
 use Rattle.tty_base.specs.declared.lines.Overrun.{Overrun}
 use Rattle.tty_base.specs.Lines.{is_step}
@@ -13,14 +14,14 @@ use Rattle.tty_terminal.specs.Terminals.{Terminal, caller_at}
 use Rattle.tty_terminal.specs.Standing.{Standing, standing_of}
 use Rattle.tty_terminal.specs.Steps.{next_phase}
 use Rattle.tty_terminal.specs.Runs.{Leads, AgreesOn, chars_of}
-use Rattle.journal_check.specs.Legal.{phase_at, IsCallerOf, first_step, script_of_first, session_events_in}
-use Rattle.journal_check.specs.Legal.{line_ends_in, received_before, AreInPhases, flip_on}
-use Rattle.journal_check.specs.Phases.{CompletesPhase}
+use Rattle.legal_runs.specs.Legal.{phase_at, IsCallerOf, first_step, script_of_first, session_events_in, line_ends_in}
+use Rattle.legal_runs.specs.Legal.{received_before, AreInPhases, flip_on}
+use Rattle.legal_runs.specs.Phases.{CompletesPhase}
 use Rattle.port_core.specs.Ports.{PortValue, call_in}
-use Rattle.one_thread.specs.Roles.{Scene, PlainRole, IsRoleOf}
-use Rattle.one_thread.specs.Lines.{HasPut}
-use Rattle.one_thread.specs.Phases.{SeesWithin}
-use Rattle.one_thread.specs.declared.phases.Station.{Station}
+use Rattle.play_base.specs.Roles.{Scene, PlainRole, IsRoleOf}
+use Rattle.play_base.specs.Putting.{HasPut}
+use Rattle.play_base.specs.Phases.{SeesWithin}
+use Rattle.play_base.specs.declared.stations.Station.{Station}
 use Rattle.tty_port.specs.Seen.{run_after}
 use Rattle.many_threads.specs.declared.shared_phase.PhaseWork.{PhaseWork}
 use Rattle.many_threads.specs.Callers.{plain_cast}
@@ -29,7 +30,7 @@ use Rattle.many_threads.specs.Callers.{plain_cast}
 pub record IsOfSession (s : Scene) (v : PortValue) : Type 0 where
   pub counts : v.counts ≡ counts_on s.port s.session
   pub capacity : v.flip.capacity ≡ flip_on s.port s.session
-  pub limit : v.limit ≡ 4194304
+  pub limit : v.limit ≡ MOST_ENTRIES
   pub calls : AgreesOn (call_in v.kept) (call_at s.port s.session) v.journal
   pub in_phases : AreInPhases s.port s.session 0 v.journal
 
@@ -102,7 +103,7 @@ pub record StopsPhase (s : Scene) (k : ℕ) (old new : PortValue) (now : PutterS
   pub leads : Leads (call_at s.port s.session) (counts_on s.port s.session) old.terminal part new.terminal
   pub inside : session_events_in part ≡ []
   pub ticks : new.terminal.tick ≤ old.terminal.tick + ticks_on s.port (phase_at s.session k)
-  pub full : length new.journal ≡ 4194304
+  pub full : length new.journal ≡ MOST_ENTRIES
   pub ring : new.flip.ring ≡ old.flip.ring
   pub capacity : new.flip.capacity ≡ old.flip.capacity
   pub has_put : HasPut new now played (script_of_first s.port s.session (k + 1))

@@ -3,7 +3,7 @@
 ghost use Rattle.std.specs.Prelude.{◌+◌, ◌<◌, ◌^◌, IfErr, OnOk, OnErr, All, length, sum};
 ghost use Rattle.tty_calls.specs.Limits.{IsCallWithin};
 ghost use Rattle.port_cell.specs.Knowledge.{list_seen};
-ghost use Rattle.tty_port.specs.Seen.{IsBetween};
+ghost use Rattle.tty_port.specs.Seen.{IsBetweenCalls};
 ghost use Rattle.tty_port.specs.Adding.{IsFull};
 ghost use Rattle.tty_port.specs.Shared.{IsHere, name_of_port};
 ghost use Rattle.many_threads.specs.Parts.{MakesInRole, PlaysCaller};
@@ -26,10 +26,10 @@ fn make_calls<R: Wait, G: Gate>(
     requires known { caller < sum (name_of_port shared.now).counts }
     requires within { All IsCallWithin calls.now.items }
     requires few { first + length calls.now.items < 2 ^ 32 }
-    requires between { IsBetween caller first (list_seen seat.old) }
+    requires between { IsBetweenCalls caller first (list_seen seat.old) }
     ensures seat { IsHere shared.now caller seat.new }
     ensures makes { MakesInRole caller first calls.now.items (list_seen seat.old) seat.new }
-    ensures ok { OnOk result (IsBetween caller (first + length calls.now.items) (list_seen seat.new)) }
+    ensures ok { OnOk result (IsBetweenCalls caller (first + length calls.now.items) (list_seen seat.new)) }
     ensures full { IfErr result (λ d. IsFull (name_of_port shared.now) d (list_seen seat.new)) }
 {
     let mut step = first;
@@ -55,7 +55,7 @@ pub(crate) fn play_caller<R: Wait, G: Gate>(
     requires known { caller < sum (name_of_port shared.now).counts }
     requires within { All IsCallWithin calls.now.items }
     requires few { first + length calls.now.items < 2 ^ 32 }
-    requires between { IsBetween caller first (list_seen seat.old) }
+    requires between { IsBetweenCalls caller first (list_seen seat.old) }
     ensures seat { IsHere shared.now caller seat.new }
     ensures ok { OnOk result (PlaysCaller caller first calls.now.items (list_seen seat.old) seat.new) }
     ensures err { OnErr result (MakesInRole caller first calls.now.items (list_seen seat.old) seat.new) }

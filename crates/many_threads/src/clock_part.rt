@@ -1,6 +1,6 @@
 //! What the clock's thread does in a phase: its ticks, and their end.
 
-ghost use Rattle.std.specs.Prelude.{◌≡◌, ◌+◌, false, IfErr, OnOk, OnErr, sum};
+ghost use Rattle.std.specs.Prelude.{◌≡◌, ◌+◌, false, IfErr, OnOk, OnErr};
 ghost use Rattle.port_cell.specs.Knowledge.{list_seen};
 ghost use Rattle.tty_port.specs.Seen.{marks_at};
 ghost use Rattle.tty_port.specs.Adding.{IsFull};

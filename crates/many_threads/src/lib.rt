@@ -1,6 +1,5 @@
-//! A session played on threads. In each phase a port has a thread for each caller, one each for line and
-//! flusher, and one for a clock that ticks, side by side over the seats of a shared port, all joined before
-//! the phase ends.
+//! A phase of a port on threads: what each thread does in it, and what is shared. A port has a thread for each
+//! caller, one each for line and flusher, and one for a clock that ticks, over the seats of a shared port.
 #![tactic(auto)]
 
 mod caller_part;
@@ -11,24 +10,25 @@ mod crew;
 mod flusher_part;
 mod keeping;
 mod line_part;
-mod ports;
+mod port_ends;
 mod seats;
-mod session;
 mod shared_phase;
 mod start_signal;
 mod thread_bodies;
-mod thread_making;
 
-pub use caller_threads::CallersBack;
+pub use caller_threads::{CallersBack, is_full};
 pub use cast::{caller_count, seat_roles};
 pub use clock_part::play_clock;
-pub use crew::{CallersOfCrew, ClockOfCrew, Crew, CrewBack, FlusherOfCrew, LineOfCrew, run_beside};
+pub use crew::{CallersOfCrew, ClockOfCrew, Crew, CrewBack, FlusherOfCrew, LineOfCrew};
 pub use keeping::beside;
 pub use line_part::Receiver;
+pub use port_ends::end_port;
 pub use seats::Seats;
-pub use session::play;
 pub use shared_phase::{
-    PhaseBack, PhaseEnd, PhaseWork, crew_of, end_phase, share, take_together, unshare,
+    PhaseBack, PhaseEnd, PhaseWork, crew_of, end_phase, finish_phase, share, take_together, unshare,
 };
-pub use start_signal::Start;
-pub use thread_bodies::{FlusherBack, LineBack, SeatBack, tick_all};
+pub use start_signal::{Site, Start};
+pub use thread_bodies::{
+    FlusherBack, LineBack, SeatBack, caller_thread, clock_thread, flusher_thread, line_thread,
+    tick_all,
+};

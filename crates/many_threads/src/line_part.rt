@@ -1,6 +1,7 @@
 //! What the line's thread does in a phase: the line's steps, and its end.
 
-ghost use Rattle.std.specs.Prelude.{◌≡◌, ◌+◌, ◌-◌, ◌≤◌, ◌^◌, false, IsTrue, List, IfErr, OnOk, OnErr, All, length};
+ghost use Rattle.std.specs.Prelude.{◌≡◌, ◌+◌, ◌-◌, ◌≤◌, false, IsTrue, List, IfErr, OnOk, OnErr, All, length};
+ghost use Rattle.tty_base.specs.Sizes.{MOST_SENT};
 ghost use Rattle.tty_base.specs.Lines.{is_step, arrival_count};
 ghost use Rattle.tty_base.specs.declared.lines.LineStep.{LineStep};
 ghost use Rattle.uart_line.specs.LineState.{HasDone};
@@ -29,7 +30,7 @@ fn send<R: Wait>(
     requires seat { IsHere shared.now (number_of seat.old) seat.old }
     requires good { All (λ step. IsTrue (is_step step)) steps.now }
     requires room { line.old.report.arrived + arrival_count steps.now ≤ line.old.most }
-    requires put { line.old.most ≤ (2 ^ 63 - length putter.old.sent) + line.old.handed }
+    requires put { line.old.most ≤ (MOST_SENT - length putter.old.sent) + line.old.handed }
     ensures seat { seat.new ≡ seat.old }
     ensures runs { RunsLine steps.now line.old line.new putter.old putter.new }
 {
@@ -66,7 +67,7 @@ pub(crate) fn play_line<R: Wait, G: Gate>(
     requires done { (before : List LineStep) × HasDone receiver.old.line before }
     requires good { All (λ step. IsTrue (is_step step)) steps.now }
     requires room { receiver.old.line.report.arrived + arrival_count steps.now ≤ receiver.old.line.most }
-    requires put { receiver.old.line.most ≤ (2 ^ 63 - length receiver.old.putter.sent) + receiver.old.line.handed }
+    requires put { receiver.old.line.most ≤ (MOST_SENT - length receiver.old.putter.sent) + receiver.old.line.handed }
     ensures seat { IsHere shared.now ((name_of_port shared.now).callers + 1) receiver.new.seat }
     ensures ok { OnOk result (PlaysLine ((name_of_port shared.now).callers + 1) steps.now receiver.old.line
         receiver.new.line receiver.old.putter receiver.new.putter (list_seen receiver.old.seat) receiver.new.seat) }

@@ -1,32 +1,29 @@
 //! A phase of a port on threads: the port is shared for it, and whole again at its end.
 
-ghost use Rattle.std.specs.Prelude.{◌≡◌, ◌≤◌, true, IfOk, length};
+ghost use Rattle.std.specs.Prelude.{◌≡◌, ◌≤◌, true, IfOk};
+ghost use Rattle.tty_base.specs.Sizes.{MOST_CALLER_SEATS};
 ghost use Rattle.tty_terminal.specs.Steps.{may_end};
-ghost use Rattle.one_thread.specs.Roles.{Scene};
-ghost use Rattle.one_thread.specs.LineInside.{KnowsTaken};
-ghost use Rattle.many_threads.specs.Crew.{CanRun, seats_of, crew_in};
-ghost use Rattle.many_threads.specs.Seats.{AreDealt};
+ghost use Rattle.play_base.specs.Roles.{Scene};
+ghost use Rattle.play_base.specs.declared.stations.Station.{Station};
+ghost use Rattle.many_threads.specs.declared.shared_phase.PhaseWork.{PhaseWork};
+ghost use Rattle.many_threads.specs.Crew.{crew_in};
 ghost use Rattle.many_threads.specs.PhaseStarts.{CanPlayPhase};
 ghost use Rattle.many_threads.specs.PhaseEnds.{AreBack, IsShared, IsClosed, IsNextTold, end_of, AreTaken};
-ghost use Rattle.many_threads.specs.PhaseEnds.{ThreadsCome, ThreadsLeave, EndsOrStops, PhaseComes};
+ghost use Rattle.many_threads.specs.PhaseEnds.{CanFinish, EndsOrStops, PhaseComes, ThreadsLeave};
 
 use crate::caller_threads::is_full;
-use crate::crew::{
-    CallersOfCrew, ClockOfCrew, Crew, CrewBack, FlusherOfCrew, LineOfCrew, run_crew,
-};
+use crate::crew::{CallersOfCrew, ClockOfCrew, Crew, CrewBack, FlusherOfCrew, LineOfCrew};
 use crate::keeping::beside;
 use crate::line_part::Receiver;
 use crate::seats::{Seats, deal, gather};
 use flip_buffer::FlipIn;
 use line_steps::LineSteps;
-use one_thread::{Role, Station};
+use play_base::{Role, Station};
 use port_core::Port;
 use std::alloc::Global;
-use std::sync::Wait;
-use std::thread::Threads;
 use tty_base::NoMemory;
 use tty_calls::{Denied, Script};
-use tty_port::{Gate, Seat, SharedPort};
+use tty_port::{Seat, SharedPort};
 use uart_line::Line;
 
 /// What a phase asks of a port: the steps of its line, the ticks of its clock, and the roles of its callers
@@ -60,10 +57,10 @@ pub struct PhaseBack {
 
 /// Shares a port of so many callers, and deals out its seats.
 pub fn share(alloc: Global, port: Port, callers: usize) -> Result<(SharedPort, Seats), NoMemory>
-    requires { callers ≤ 4092 }
+    requires { callers ≤ MOST_CALLER_SEATS }
     ensures { IfOk result (λ r. IsShared callers port r.0 r.1) }
 {
-    let _journal = port.journal();
+    port.known();
     let (shared, seats) = SharedPort::new(alloc, port, callers as u32 + 4)?;
     let dealt = deal(&shared, seats);
     Ok((shared, dealt))
@@ -128,23 +125,6 @@ pub fn take_together(back: CrewBack, session: Seat) -> Result<PhaseBack, NoMemor
     })
 }
 
-/// Runs the crew of a phase beside the session's seat, and takes together what it brings back.
-fn play_together<R: Threads + Wait + Sync, G: Gate + Sync>(
-    rt: &R,
-    alloc: Global,
-    gate: &G,
-    shared: &SharedPort,
-    crew: Crew<'_>,
-    session: Seat,
-) -> Result<PhaseBack, NoMemory>
-    requires can { CanRun shared.now crew }
-    requires dealt { AreDealt shared.now (seats_of crew session) }
-    ensures { IfOk result (ThreadsCome shared.now crew.entry) }
-{
-    let back = run_crew(rt, alloc, gate, shared, crew)?;
-    take_together(back, session)
-}
-
 /// The crew of a phase: each with its seat and its part of the work, and the line with its putter. The seat of
 /// the session is left.
 pub fn crew_of<'s>(
@@ -184,45 +164,6 @@ pub fn crew_of<'s>(
     (crew, seats.session)
 }
 
-/// Shares a port for the threads of its phase, and has it whole again after them.
-fn play_threads<R: Threads + Wait + Sync, G: Gate + Sync>(
-    rt: &R,
-    alloc: Global,
-    gate: &G,
-    station: Station,
-    work: PhaseWork<'_>,
-) -> Result<(Station, PhaseEnd), NoMemory>
-    ghost scene: { Scene }
-    requires can { CanPlayPhase scene station work }
-    requires knows { KnowsTaken (length station.port.flip.taken) station.putter.heads }
-    ensures left { IfOk result (λ r. ThreadsLeave scene work.entry.phase station r.0 r.1) }
-    ensures steps { IfOk result (λ r. r.0.steps ≡ station.steps) }
-{
-    let Station {
-        port,
-        putter,
-        line,
-        steps,
-    } = station;
-    let (shared, dealt) = share(alloc, port, work.cast.len())?;
-    let (crew, session) = crew_of(dealt, line, putter, work);
-    let back = play_together(rt, alloc, gate, &shared, crew, session)?;
-    let PhaseBack {
-        seats,
-        line,
-        putter,
-        end,
-    } = back;
-    let port = unshare(shared, seats)?;
-    let left = Station {
-        port,
-        putter,
-        line,
-        steps,
-    };
-    Ok((left, end))
-}
-
 /// Ends a phase that may end.
 pub fn end_phase(port: &mut Port, putter: &mut FlipIn, next: u32) -> Result<PhaseEnd, NoMemory>
     requires may { may_end port.old.counts port.old.terminal ≡ true }
@@ -236,22 +177,16 @@ pub fn end_phase(port: &mut Port, putter: &mut FlipIn, next: u32) -> Result<Phas
     }
 }
 
-/// Plays a phase of a port: its callers, line, flusher and a clock that ticks side by side on threads, and
-/// then its end. A port whose journal is full plays no further phase.
-pub(crate) fn play_shared<R: Threads + Wait + Sync, G: Gate + Sync>(
-    rt: &R,
-    alloc: Global,
-    gate: &G,
-    mut station: Station,
-    work: PhaseWork<'_>,
-) -> Result<(Station, PhaseEnd), NoMemory>
-    ghost scene: { Scene }
-    requires can { CanPlayPhase scene station work }
-    ensures comes { IfOk result (λ r. PhaseComes scene work.entry.phase station r.0 r.1) }
-    ensures steps { IfOk result (λ r. r.0.steps ≡ station.steps) }
+/// Ends the phase of a port where it may end, after its threads. Whatever scene they played, this is what comes of its
+/// phase.
+pub fn finish_phase(mut left: Station, end: PhaseEnd) -> Result<(Station, PhaseEnd), NoMemory>
+    requires { CanFinish left end }
+    ensures comes { (s : Scene) (old : Station) (work : PhaseWork)
+        → CanPlayPhase s old work
+        → ThreadsLeave s work.phase old left end
+        → IfOk result (λ r. PhaseComes s work.phase old r.0 r.1) }
+    ensures steps { IfOk result (λ r. r.0.steps ≡ left.steps) }
 {
-    station.port.meet(&mut station.putter);
-    let (mut left, end) = play_threads(rt, alloc, gate, station, work)?;
     let PhaseEnd::Over(next) = end else {
         return Ok((left, PhaseEnd::Full));
     };

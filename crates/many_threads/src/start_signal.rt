@@ -51,8 +51,8 @@ impl Start {
 
 /// Where the threads of a phase meet: at this port, and at its start. A caller with no script makes no calls.
 #[derive(Clone, Copy)]
-pub(crate) struct Site<'s> {
-    pub(crate) shared: &'s SharedPort,
-    pub(crate) start: &'s Start,
-    pub(crate) no_calls: &'s Calls,
+pub struct Site<'s> {
+    pub shared: &'s SharedPort,
+    pub start: &'s Start,
+    pub no_calls: &'s Calls,
 }

@@ -37,7 +37,7 @@ pub struct LineBack {
 }
 
 /// A caller's thread.
-pub(crate) fn caller_thread<R: Wait, G: Gate>(
+pub fn caller_thread<R: Wait, G: Gate>(
     rt: &R,
     gate: &G,
     site: Site<'_>,
@@ -64,7 +64,7 @@ pub fn tick_all<R: Wait>(rt: &R, shared: &SharedPort, mut seat: Seat, ticks: u32
 }
 
 /// The clock's thread.
-pub(crate) fn clock_thread<R: Wait>(
+pub fn clock_thread<R: Wait>(
     rt: &R,
     site: Site<'_>,
     seat: Seat,
@@ -78,7 +78,7 @@ pub(crate) fn clock_thread<R: Wait>(
 }
 
 /// The flusher's thread.
-pub(crate) fn flusher_thread<R: Wait>(
+pub fn flusher_thread<R: Wait>(
     rt: &R,
     site: Site<'_>,
     mut seat: Seat,
@@ -92,8 +92,13 @@ pub(crate) fn flusher_thread<R: Wait>(
     Ok(FlusherBack { seat, result })
 }
 
+/// Lets go of what a thread has whose start was refused.
+fn refused<T: Drop>(_owned: T) -> NoMemory {
+    NoMemory
+}
+
 /// The line's thread.
-pub(crate) fn line_thread<R: Wait, G: Gate>(
+pub fn line_thread<R: Wait, G: Gate>(
     rt: &R,
     gate: &G,
     site: Site<'_>,
@@ -104,7 +109,9 @@ pub(crate) fn line_thread<R: Wait, G: Gate>(
     requires can { CanPlayLine site.shared.now receiver steps.now }
     ensures { IfOk result (LineComes site.entry.shared.now steps.now receiver) }
 {
-    site.start.wait(rt)?;
+    if site.start.wait(rt).is_err() {
+        return Err(refused(receiver));
+    }
     let result = play_line(rt, gate, site.shared, &mut receiver, steps, phase);
     Ok(LineBack { receiver, result })
 }

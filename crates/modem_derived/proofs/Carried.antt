@@ -1,7 +1,7 @@
 -- The steps of the callers of a session with modem lines, with the blocks of `carrier`.
 use Rattle.std.proofs.Common.{◌≡◌, ◌≤◌, ◌<◌, ℕ, zero, suc, ◌+◌, ◌==◌, Bool, true, false, cond, List, [], ◌∷◌, ◌++◌}
-use Rattle.std.proofs.Common.{Option, None, Some, length, map, filter, flat_map, if◌then◌else◌}
-use Rattle.std.proofs.Common.{refl, sym, ap, ◌∙◌, subst, arith, append-nil, length-append}
+use Rattle.std.proofs.Common.{Option, None, Some, length, map, filter, if◌then◌else◌}
+use Rattle.std.proofs.Common.{refl, sym, ap, ◌∙◌, subst, arith, append-nil}
 use Rattle.std.specs.Prelude.{All, option_map, replicate, slice_get, slice_index_or}
 use Rattle.std.specs.List.{range_with_len}
 use Rattle.std.specs.Str.{bytes_eq}
@@ -11,18 +11,18 @@ use Rattle.std.proofs.lemmas.List.Elements.{filter-append}
 use Rattle.std.proofs.lemmas.List.FromFn.{get_or-map-range_with_len}
 use Rattle.std.proofs.lemmas.Grind.{flat_map-append}
 use Rattle.std.proofs.lemmas.Option.{slice_get-map}
-use Rattle.tty_calls.specs.Plain.{PlainCall}
 use Rattle.tty_calls.specs.Sessions.{PlainPhase, PlainSession, names_of, scripts_over as plain_over}
-use Rattle.one_thread.proofs.NameLemmas.{eq_name}
+use Rattle.play_base.proofs.NameLemmas.{eq_name}
 use Rattle.passed_calls.specs.declared.placed.PlacedCall.{PlacedCall}
 use Rattle.passed_calls.specs.Blocks.{Block, names_on}
 use Rattle.passed_calls.specs.Derived.{BlockPhase, blocks_of}
-use Rattle.passed_calls.specs.Scripts.{AnyCall, CallerScript, plain, further, block_of, calls_named, mixed_scripts}
+use Rattle.passed_calls.specs.Scripts.{CallerScript, plain, further, block_of, calls_named, mixed_scripts}
 use Rattle.passed_calls.specs.Scripts.{phases_with}
 use Rattle.passed_calls.specs.Within.{IsBlockPhaseWithin}
 use Rattle.passed_calls.proofs.Names.{names_stay}
 use Rattle.derived_session.specs.declared.passed.FurtherBlock.{FurtherBlock}
-use Rattle.derived_session.specs.Steps.{Step, StepsPhase, step_of, steps_in, further_steps, phases_steps, block_phase_of}
+use Rattle.derived_session.specs.Steps.{CallerStep, StepsPhase, step_of, steps_in, further_steps, phases_steps}
+use Rattle.derived_session.specs.Steps.{block_phase_of}
 use Rattle.derived_session.specs.Steps.{scripts_in, step_at, own_call}
 use Rattle.derived_session.proofs.Stepping.{blocks_kept, own_kept}
 use Rattle.modem_text.specs.declared.items.OwnCall.{OwnCall}
@@ -36,7 +36,7 @@ use Rattle.modem_steps.specs.Derived.{block_phases, modem_call_at, plain_call, s
 use Rattle.modem_one.proofs.Shares.{names_same}
 use Rattle.modem_derived.specs.Blocks.{AreCarriers, block_of_further, carriers_in, items_of_port, nothing_passed}
 use Rattle.modem_derived.specs.Blocks.{own_of, pins_of}
-use Rattle.modem_derived.proofs.Silent.{silent_in, silent_over}
+use Rattle.modem_steps.proofs.Silent.{silent_in, silent_over}
 
 abbrev One : Type 0
 One = CallerScript ModemCall
@@ -142,7 +142,7 @@ own_named : (name : List ℕ) (p : ℕ) (ss : List One)
     → under name (filter (is_on p) (map steps_in ss)) ≡ map step_of (under name (filter (is_on p) ss))
 own_named name p ss = ap (under name) (own_kept p ss) ∙ named_kept name (filter (is_on p) ss)
 
-abbrev IsNone : Step → Type 0
+abbrev IsNone : CallerStep → Type 0
 IsNone s = s ≡ None
 
 -- `carrier` passes none of its steps down, and under another name it has none
@@ -155,7 +155,7 @@ module _ (name : List ℕ) (p : ℕ) where
       of_name true = All-replicate IsNone b.steps None refl
       of_name false = All-nil IsNone
 
-      either : (t : Bool) (xs : List (CallerScript Step))
+      either : (t : Bool) (xs : List (CallerScript CallerStep))
           → All IsNone (under name xs)
           → All IsNone (under name (cond t (further_steps b ∷ xs) xs))
       either true xs h =
@@ -177,16 +177,16 @@ module _ (name : List ℕ) (p : ℕ) where
             (All-head (λ (x : FurtherBlock). IsCarrier ports (block_of_further x)) b bs h).1
             ∙ other
 
-        either : (t : Bool) (xs : List (CallerScript Step))
+        either : (t : Bool) (xs : List (CallerScript CallerStep))
             → under name xs ≡ []
             → under name (cond t (further_steps b ∷ xs) xs) ≡ []
         either true xs none =
             ap (λ (t : Bool). (if t then replicate b.steps None else []) ++ under name xs) called ∙ none
         either false xs none = none
 
-none_made : (steps : List Step) (n : ℕ) → All IsNone steps → own_call (slice_get steps n) ≡ []
+none_made : (steps : List CallerStep) (n : ℕ) → All IsNone steps → own_call (slice_get steps n) ≡ []
 none_made [] n h = refl
-none_made (s ∷ steps) zero h = ap (λ (x : Step). own_call (Some x)) (All-head IsNone s steps h)
+none_made (s ∷ steps) zero h = ap (λ (x : CallerStep). own_call (Some x)) (All-head IsNone s steps h)
 none_made (s ∷ steps) (suc n) h = none_made steps n (All-tail IsNone s steps h)
 
 plain_is : (o : Option ModemCall) → own_call (option_map step_of o) ≡ plain_call o
@@ -247,16 +247,17 @@ module _ (ports count : ℕ) (parts : List ModemPart) (carriers : List (List Fur
 
   module _ (p : ℕ) where
     -- the scripts of a port
-    abbrev of_port : List StepsPhase → List (CallerScript Step)
+    abbrev of_port : List StepsPhase → List (CallerScript CallerStep)
     of_port phases = filter (is_on p) (scripts_in phases)
 
     abbrev mine_at : (n : ℕ) → PlainPhase → List One
     mine_at n phase = filter (is_on p) (mixed_at n phase)
 
-    abbrev carriers_at : (n : ℕ) → List (CallerScript Step)
+    abbrev carriers_at : (n : ℕ) → List (CallerScript CallerStep)
     carriers_at n = filter (is_on p) (map further_steps (others_at n))
 
-    mine_is : (n : ℕ) (phase : PlainPhase) → mine_at n phase ≡ filter (is_on p) (phase_with ports phase (part_at n)).callers
+    mine_is : (n : ℕ) (phase : PlainPhase) → mine_at n phase ≡ filter (is_on p)
+        (phase_with ports phase (part_at n)).callers
     mine_is n phase =
         ap (λ (os : List (PlacedCall OwnCall)). filter (is_on p) (mixed_scripts 0 phase.callers os)) (own_at parts n)
 
@@ -270,10 +271,11 @@ module _ (ports count : ℕ) (parts : List ModemPart) (carriers : List (List Fur
         let later = scripts_in (steps_from (n + 1) phases) in
         ap (under name) (filter-append (is_on p) (own ++ others) later)
         ∙ (under_append name (filter (is_on p) (own ++ others)) (filter (is_on p) later)
-        ∙ ap (λ (cs : List Step). cs ++ under name (filter (is_on p) later))
+        ∙ ap (λ (cs : List CallerStep). cs ++ under name (filter (is_on p) later))
         (ap (under name) (filter-append (is_on p) own others)
         ∙ (under_append name (filter (is_on p) own) (filter (is_on p) others)
-        ∙ ap (λ (cs : List Step). cs ++ under name (filter (is_on p) others)) (own_named name p (mixed_at n phase)))))
+        ∙ ap (λ (cs : List CallerStep). cs ++ under name (filter (is_on p) others))
+        (own_named name p (mixed_at n phase)))))
 
     -- under the names of callers, the steps of their calls
     other_named : (name : List ℕ) (n : ℕ) (phases : List PlainPhase)
@@ -289,7 +291,7 @@ module _ (ports count : ℕ) (parts : List ModemPart) (carriers : List (List Fur
         (are_carriers ports (slice_index_or (map pins_of parts) n []) (others_at n) (are.each n (omega (arith, le)))) in
         let here : map step_of (under name (mine_at n phase)) ++ under name (carriers_at n)
         ≡ map step_of (under name mine) =
-        ap (λ (cs : List Step). map step_of (under name (mine_at n phase)) ++ cs) none
+        ap (λ (cs : List CallerStep). map step_of (under name (mine_at n phase)) ++ cs) none
         ∙ (append-nil (map step_of (under name (mine_at n phase)))
         ∙ ap (λ (ss : List One). map step_of (under name ss)) (mine_is n phase)) in
         named_first name n phase phases
@@ -311,9 +313,9 @@ module _ (ports count : ℕ) (parts : List ModemPart) (carriers : List (List Fur
         (silent_in ports p made
         (All-head (IsBlockPhaseWithin ports) (modem_block_phase ports made)
         (map (modem_block_phase ports) (phases_from (n + 1) phases)) within)) in
-        subst (λ (cs : List Step). All IsNone cs)
+        subst (λ (cs : List CallerStep). All IsNone cs)
         (sym (named_first carrier_name n phase phases
-        ∙ ap (λ (cs : List Step). (cs ++ under carrier_name (carriers_at n)) ++ later) none))
+        ∙ ap (λ (cs : List CallerStep). (cs ++ under carrier_name (carriers_at n)) ++ later) none))
         (All-append IsNone (under carrier_name (carriers_at n)) later (all_none carrier_name p (others_at n))
         (carrier_named (n + 1) phases
         (All-tail (IsBlockPhaseWithin ports) (modem_block_phase ports made)
@@ -345,7 +347,7 @@ module _ (base : PlainSession) (parts : List ModemPart) (carriers : List (List F
       ∙ (names_stay (λ q. []) (block_phases session) p ∙ sym (names_same p session))
 
   module _ (within : IsModemSessionWithin session) (p : ℕ) where
-    abbrev mine : List (CallerScript Step)
+    abbrev mine : List (CallerScript CallerStep)
     mine = filter (is_on p) (scripts_in all_steps)
 
     abbrev calls : List One
@@ -363,7 +365,7 @@ module _ (base : PlainSession) (parts : List ModemPart) (carriers : List (List F
         (carrier_named base.ports (length base.phases) parts carriers are p 0 base.phases within.blocks.each))
         ∙ sym (ap (λ (cs : List ModemCall). plain_call (slice_get cs n)) silent)
     by_name name n false is =
-        ap (λ (cs : List Step). own_call (slice_get cs n))
+        ap (λ (cs : List CallerStep). own_call (slice_get cs n))
         (other_named base.ports (length base.phases) parts carriers are p name 0 base.phases is (omega arith))
         ∙ (ap own_call (slice_get-map step_of (under name calls) n) ∙ plain_is (slice_get (under name calls) n))
 

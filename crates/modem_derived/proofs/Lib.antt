@@ -1,4 +1,4 @@
-pub mod Silent
 pub mod Carried
 pub mod Derived
 pub mod Listed
+pub mod ByEvents

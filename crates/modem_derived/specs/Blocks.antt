@@ -1,32 +1,20 @@
--- The blocks of `carrier`, the session of the ports before anything was passed down, and what a port was passed.
-use Rattle.std.specs.Prelude.{◌≡◌, ◌<◌, ◌==◌, ℕ, List, [], ◌++◌, map, filter, length, slice_index_or}
+-- The blocks of `carrier`, and the session of the ports before anything was passed down.
+use Rattle.std.specs.Prelude.{◌≡◌, ◌<◌, ◌==◌, ℕ, List, [], map, filter, length, slice_index_or}
 use Rattle.std.specs.List.{range_with_len}
-use Rattle.tty_calls.specs.Plain.{PlainEntry}
 use Rattle.tty_calls.specs.Sessions.{PlainSession}
 use Rattle.passed_calls.specs.declared.placed.PlacedCall.{PlacedCall}
 use Rattle.passed_calls.specs.Blocks.{Block}
-use Rattle.passed_calls.specs.Derived.{Passing, passed_phases}
 use Rattle.derived_session.specs.declared.passed.FurtherBlock.{FurtherBlock}
 use Rattle.modem_text.specs.declared.items.OwnCall.{OwnCall}
 use Rattle.modem_text.specs.declared.sessions.ModemPart.{ModemPart}
 use Rattle.modem_text.specs.declared.sessions.PinItem.{PinItem}
-use Rattle.modem_text.specs.Events.{ModemLog}
 use Rattle.modem_text.specs.Sessions.{ModemSession, carrier_block}
-use Rattle.modem_steps.specs.Derived.{block_phases, passings_on}
-use Rattle.modem_one.specs.Played.{begun_in}
+use Rattle.modem_one.specs.Played.{by_blocks}
+use Rattle.passed_laws.specs.Sessions.{played_session}
 
 -- nothing was passed down
 abbrev pub nothing_passed : ModemSession → PlainSession
-nothing_passed session = record {
-  version = session.version;
-  ports = session.ports;
-  flips = session.flips;
-  phases = passed_phases (λ p. []) (block_phases session);
-}
-
--- all that a port was passed: what was logged, and what it has begun and not answered
-abbrev pub all_passed : ModemSession → ModemLog → (p : ℕ) → List PlainEntry → List Passing
-all_passed session log p journal = passings_on session log p ++ begun_in session log p journal
+nothing_passed session = played_session (by_blocks session) (λ p. [])
 
 -- ---- what phases have beside
 
@@ -54,4 +42,5 @@ pub record AreCarriers (ports count : ℕ) (parts : List ModemPart) (carriers : 
   pub many : length carriers ≡ count
   pub each : (k : ℕ)
       → k < count
-      → map block_of_further (slice_index_or carriers k []) ≡ carriers_in ports (slice_index_or (map pins_of parts) k [])
+      → map block_of_further (slice_index_or carriers k []) ≡ carriers_in ports
+      (slice_index_or (map pins_of parts) k [])

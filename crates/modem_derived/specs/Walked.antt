@@ -1,14 +1,14 @@
 -- What a port was passed, as its log is walked: for private functions alone.
-use Rattle.std.specs.Prelude.{ℕ, ◌+◌, ◌-◌, List, [], ◌∷◌, ◌++◌, length, replicate, slice_index_or, slice_set, unwrap_or}
+use Rattle.std.specs.Prelude.{ℕ, ◌+◌, ◌-◌, List, [], ◌∷◌, ◌++◌, length, replicate, unwrap_or}
 use Rattle.tty_calls.specs.declared.journals.PortRun.{PortRun}
 use Rattle.tty_calls.specs.Plain.{PlainEntry}
 use Rattle.tty_calls.specs.Sessions.{PlainSession, scripts_over, names_of, number_in}
 use Rattle.derived_session.specs.declared.passed.PassedDown.{PassedDown}
 use Rattle.derived_session.specs.declared.passed.Down.TheVariants as down
-use Rattle.derived_session.specs.Begun.{begun_down}
+use Rattle.derived_session.specs.Begun.{begun_down, one_more, after_all}
 use Rattle.modem_text.specs.Events.{ModemEvent, pin_set, own, passed, carrier_lost, ModemLog, events_on}
 use Rattle.modem_text.specs.Sessions.{carrier_name}
-use Rattle.modem_one.specs.Played.{journal_on}
+use Rattle.passed_laws.specs.Sessions.{journal_on}
 
 -- what was passed down so far, how many calls of each caller were answered, and how many items of the modem blocks were
 -- done; and the number of `carrier`
@@ -20,9 +20,6 @@ pub record Walked : Type 0 where
 
 abbrev pub first_walk : (callers carrier : ℕ) → Walked
 first_walk n carrier = record { passed = []; answered = replicate n 0; items = 0; carrier = carrier }
-
-abbrev pub one_more : List ℕ → (c : ℕ) → List ℕ
-one_more answered c = slice_set answered c (slice_index_or answered c 0 + 1)
 
 -- behind one event more, and behind all of these
 abbrev pub walked_by : Walked → ModemEvent → Walked
@@ -44,8 +41,7 @@ walked_by w (carrier_lost h) = record {
 }
 
 abbrev pub walked_over : Walked → List ModemEvent → Walked
-walked_over w [] = w
-walked_over w (e ∷ es) = walked_over (walked_by w e) es
+walked_over w es = after_all walked_by w es
 
 -- what a port of these callers was passed: what was logged of it, and the calls that it has begun
 abbrev pub all_down : (names : List (List ℕ)) → List ModemEvent → List PlainEntry → List PassedDown

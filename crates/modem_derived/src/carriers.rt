@@ -1,6 +1,6 @@
 //! The blocks of `carrier`, the caller that hangs a port up.
 
-ghost use Rattle.std.specs.Prelude.{◌≡◌, ◌++◌, ◌∷◌, [], ◌+◌, ◌==◌, IfOk, OnOk, if◌then◌else◌, length, map};
+ghost use Rattle.std.specs.Prelude.{◌≡◌, [], ◌+◌, ◌==◌, IfOk, if◌then◌else◌, length, map};
 ghost use Rattle.std.specs.Prelude.{slice_index_or};
 ghost use Rattle.tty_calls.specs.Sessions.{session_of};
 ghost use Rattle.modem_text.specs.Sessions.{carrier_block, carrier_name};

@@ -5,7 +5,8 @@ ghost use Rattle.std.specs.Prelude.{slice_index_or, unwrap_or};
 ghost use Rattle.tty_calls.specs.Sessions.{number_in, session_of};
 ghost use Rattle.modem_text.specs.Events.{event_of, events_on, logged_of};
 ghost use Rattle.modem_text.specs.Sessions.{carrier_name};
-ghost use Rattle.modem_derived.specs.Walked.{all_down, down_on, first_walk, one_more, walked_by, walked_over};
+ghost use Rattle.modem_derived.specs.Walked.{all_down, down_on, first_walk, walked_by, walked_over};
+ghost use Rattle.derived_session.specs.Begun.{one_more};
 
 use crate::carriers::carrier_name;
 use derived_session::{Down, PassedDown, add_begun};
@@ -75,8 +76,8 @@ fn number_of_carrier(names: &Names) -> Result<u16, NoMemory>
     Ok(carrier)
 }
 
-/// What was passed down so far, how many calls of each caller were answered, and how many items of the modem blocks were
-/// done; and the number of `carrier`.
+/// What was passed down so far, how many calls of each caller were answered, and how many items of the modem blocks
+/// were done; and the number of `carrier`.
 #[derive(Drop)]
 struct Walk {
     passed: Vec<PassedDown>,

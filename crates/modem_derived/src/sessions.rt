@@ -6,8 +6,9 @@ ghost use Rattle.passed_calls.specs.Within.{ArePassedWithin};
 ghost use Rattle.modem_text.specs.Events.{logged_of};
 ghost use Rattle.modem_text.specs.Sessions.{modem_session_of};
 ghost use Rattle.modem_text.specs.Within.{IsModemSessionWithin};
-ghost use Rattle.modem_one.specs.Played.{derived_with, journal_on};
-ghost use Rattle.modem_derived.specs.Blocks.{all_passed, nothing_passed, own_of};
+ghost use Rattle.modem_one.specs.Played.{derived_with, all_passed};
+ghost use Rattle.modem_derived.specs.Blocks.{nothing_passed, own_of};
+ghost use Rattle.passed_laws.specs.Sessions.{journal_on};
 
 use crate::carriers::carriers_of;
 use crate::passing::passed_in;
@@ -34,7 +35,8 @@ pub fn base_of(alloc: Global, session: &ModemSession) -> Result<Session, NoMemor
     )
 }
 
-/// The session that the ports were played, which have these runs. `base` is the session in which nothing was passed down.
+/// The session that the ports were played, which have these runs. `base` is the session in which nothing was passed
+/// down.
 pub fn derive_session(
     alloc: Global,
     session: &ModemSession,

@@ -1,6 +1,6 @@
 //! The modem lines of a port, with the numbers of their bits (ioctl_tty(2), TIOCMGET; 16550, modem status register).
 
-ghost use Rattle.std.specs.Prelude.{◌≡◌, ◌≤◌, if◌then◌else◌, not, ◌==◌, bit_and};
+ghost use Rattle.std.specs.Prelude.{◌≡◌, ◌≤◌};
 ghost use Rattle.modem_lines.specs.Lines.{first_lines, with_pin, loses_carrier, may_open, after_open};
 ghost use Rattle.modem_lines.specs.Lines.{after_shut, has_bit, assigned, raised, lowered, bit_where};
 ghost use Rattle.modem_lines.specs.Lines.{modem_bits, status_register, after_status};

@@ -7,9 +7,9 @@ use Rattle.std.proofs.lemmas.List.{length-map}
 use Rattle.tty_calls.specs.declared.journals.Who.TheVariants.{Caller, Flusher, Clock, Session}
 use Rattle.tty_terminal.specs.Terminals.{Terminal}
 use Rattle.tty_terminal.specs.Steps.{nothing_to_flush}
-use Rattle.one_thread.specs.Order.{is_waiting}
+use Rattle.one_order.specs.Order.{is_waiting}
 use Rattle.one_thread.specs.Turns.{role_numbers}
-use Rattle.one_thread.specs.declared.roles.Role.{Role}
+use Rattle.play_base.specs.declared.roles.Role.{Role}
 use Rattle.modem_steps.specs.Steps.{Port, ModemState, callers_in}
 use Rattle.modem_steps.specs.Order.{Turn, goes_on, is_told, can_go_on, open_is_held, first_such, turn_in_vain}
 use Rattle.modem_steps.specs.Order.{turn_of_others, turn_by_rank}

@@ -7,7 +7,8 @@ use Rattle.std.proofs.lemmas.Bool.{cases_eq, eq-eqb, false≢true}
 use Rattle.std.proofs.lemmas.List.{get_or-set_same, get_or-set_other, length-set}
 use Rattle.std.proofs.lemmas.Option.{same_Some, slice_get-get_or, slice_get_within}
 use Rattle.port_core.specs.Ports.{PortValue}
-use Rattle.one_thread.specs.declared.roles.Role.{Role}
+use Rattle.tty_base.specs.Sizes.{MOST_STEPS}
+use Rattle.play_base.specs.declared.roles.Role.{Role}
 use Rattle.one_thread.specs.declared.after_line.Stand.{Stand}
 use Rattle.one_thread.proofs.AfterLine.{all_known}
 use Rattle.one_thread.proofs.Calling.{role_number, same_place}
@@ -28,7 +29,7 @@ use Rattle.modem_one.specs.Left.{AreCallsLeft, AreItemsLeft, turns_left}
 use Rattle.modem_one.specs.Playing.{Frame}
 use Rattle.modem_one.specs.Turns.{port_now}
 use Rattle.modem_one.specs.AfterLine.{IsAtTurn, IsTurnOf, IsBetween, BeginsTurns, AreAsked, AreItems}
-use Rattle.modem_one.specs.AfterLine.{IsNextOf, TakesCall, TakesTurn}
+use Rattle.modem_one.specs.AfterLine.{IsNextOf, TakesCall, TakesNoCall}
 use Rattle.modem_one.proofs.NextInPhase.{next_is_left}
 use Rattle.modem_one.proofs.Taking.{plays_it, phase_is, roles_at, has_role}
 
@@ -82,7 +83,7 @@ module _ (p k : ℕ) (session : ModemSession) (next : List ℕ) (c : ℕ) where
       let step : slice_index_or late c 0 ≡ slice_index_or next c 0 + 1 =
       step_own next c (slice_index_or next c 0 + 1) h.known in
       let count : slice_index_or next c 0 + suc (length rest) ≡ begin_of p (block_phases session) (k + 1) c = h.count in
-      let few : slice_index_or next c 0 + suc (length rest) ≤ 65536 = h.few in
+      let few : slice_index_or next c 0 + suc (length rest) ≤ MOST_STEPS = h.few in
       record {
         known = omega (arith, h.known, long);
         from = omega (arith, h.from, step);
@@ -241,7 +242,8 @@ module _ (f : Frame) (roles : List Role) where
       → slice_get roles place ≡ Some (get_or roles place r)
   place_at v d stand place r is = slice_get-get_or roles place r is.within
 
-  abbrev pub next_of : (v : PortValue) (d : DeskState) (stand : Stand) (left : List (List ModemCall)) (items : List PinStep)
+  abbrev pub next_of : (v : PortValue) (d : DeskState) (stand : Stand) (left : List (List ModemCall))
+      (items : List PinStep)
       (place : ℕ) (r : Role) (call : ModemCall)
       → IsBetween f roles v d stand left items
       → slice_get roles place ≡ Some r
@@ -256,7 +258,7 @@ module _ (f : Frame) (roles : List Role) where
       subst (λ (cs : List ModemCall). IsLeftTo p k (block_phases f.session) (modem_call_at p f.session) d.next c cs)
       (head_of (left_at left place) call is) mine in
       let count : step_of d c + suc (length rest) ≡ begin_of p (block_phases f.session) (k + 1) c = own.count in
-      let few : step_of d c + suc (length rest) ≤ 65536 = own.few in
+      let few : step_of d c + suc (length rest) ≤ MOST_STEPS = own.few in
       let here : step_of d c + 0 ≡ step_of d c = omega arith in
       record {
         role = r;
@@ -277,7 +279,7 @@ module _ (f : Frame) (roles : List Role) where
   pub between_turn : (old new : PortValue) (d : DeskState) (was now : Stand) (left : List (List ModemCall))
       (items : List PinStep)
       → IsBetween f roles old d was left items
-      → TakesTurn f roles old new d now
+      → TakesNoCall f roles old new d now
       → IsBetween f roles new d now left items
   between_turn old new d was now left items h t = record {
     at = t.at;

@@ -5,19 +5,20 @@ use Rattle.std.proofs.Common.{length-append, append_assoc}
 use Rattle.std.specs.Prelude.{slice_get, ◌==◌, ◌||◌, slice_set}
 use Rattle.std.specs.List.{list_all}
 use Rattle.std.proofs.lemmas.Bool.{false≢true}
-use Rattle.tty_calls.specs.Plain.{PlainCall, PlainAnswer, done, idle, PlainEntry}
+use Rattle.tty_calls.specs.Plain.{PlainCall, hangs_up, PlainAnswer, done, idle, PlainEntry}
 use Rattle.tty_calls.specs.Sessions.{PlainSession}
 use Rattle.tty_calls.specs.declared.journals.Who.TheVariants.{Caller}
-use Rattle.tty_terminal.specs.Terminals.{Terminal, caller_at, handle_at, live_count}
+use Rattle.tty_terminal.specs.Terminals.{Terminal, caller_at, handle_at, has_begun, live_count}
 use Rattle.tty_terminal.specs.Steps.{nothing_to_flush}
-use Rattle.port_core.specs.Ports.{PortValue, IsPort}
-use Rattle.one_thread.specs.Order.{is_waiting}
-use Rattle.one_thread.specs.Roles.{Scene}
-use Rattle.one_thread.specs.Turns.{IsKept}
+use Rattle.port_core.specs.Ports.{PortValue, IsPort, call_in}
+use Rattle.one_order.specs.Order.{is_waiting}
+use Rattle.play_base.specs.Roles.{Scene}
+use Rattle.one_thread.specs.Turns.{IsKeptCall}
 use Rattle.order_laws.specs.Agreed.{Agrees, IsLike}
-use Rattle.journal_check.proofs.NameLemmas.{get_past}
+use Rattle.legal_runs.proofs.NameLemmas.{get_past}
 use Rattle.passed_calls.specs.Journals.{Journal, terminal_at, IsAnswerAt}
 use Rattle.passed_calls.specs.Scripts.{plain, further}
+use Rattle.passed_laws.specs.Begun.{begun_at}
 use Rattle.passed_laws.specs.Later.{IsLater, ComesBy, WasAnswered}
 use Rattle.passed_laws.specs.Witness.{scene_on}
 use Rattle.passed_laws.proofs.Laters.{later_before, terminal_now}
@@ -29,7 +30,7 @@ use Rattle.modem_text.specs.Sessions.{ModemCall, ModemSession}
 use Rattle.modem_steps.specs.Derived.{carrier_on, call_in_phase}
 use Rattle.modem_steps.specs.Steps.{Port, ModemState, modem_handle, modem_gives, through, next_call, callers_in}
 use Rattle.modem_steps.specs.Steps.{waits_for_carrier, nobody_goes_on, is_held_up, least_live, items_from}
-use Rattle.modem_steps.specs.Steps.{OwnAnswer, IsOwn, IsPlain, IsAllowed, lines_after_own}
+use Rattle.modem_steps.specs.Steps.{OwnAnswer, IsOwn, IsForPort, IsOfCall, IsAllowed, lines_after_own}
 use Rattle.modem_steps.specs.Steps.{lines_after_answer, after_event}
 use Rattle.modem_steps.specs.Order.{goes_on, sets_pin, is_told, own_turn, can_go_on, open_is_held, modem_turn}
 use Rattle.modem_steps.specs.Order.{IsEventInTurn}
@@ -105,6 +106,7 @@ desk_notes first session v d x at due behind event number logged ordered h =
 
 pub notes_own : (first : Scene) (session : ModemSession) (v : PortValue) (d : DeskState) (at c : ℕ) (call : OwnCall)
     → IsPort v
+    → begun_at v c ≡ false
     → call_in_phase first.port session v.terminal.phase c (step_of d c) ≡ Some (further call)
     → ((played : PlainSession)
     → IsLike first (scene_on first.port played)
@@ -115,7 +117,7 @@ pub notes_own : (first : Scene) (session : ModemSession) (v : PortValue) (d : De
     ≡ goes_on (Caller c)) × ((here first played v).terminal ≡ v.terminal))
     → Notes first session v d (controlled d v c call) at [] []
     (own c (step_of d c) (through (handle_at v.terminal (modem_handle call)) (modem_gives d.lines call)))
-notes_own first session v d at c call port has turns =
+notes_own first session v d at c call port rest has turns =
     let s = state_at d at [] in
     let n = length v.journal in
     let answer = through (handle_at v.terminal (modem_handle call)) (modem_gives d.lines call) in
@@ -127,6 +129,7 @@ notes_own first session v d at c call port has turns =
           subst (λ (t : Terminal). IsOwn its s t c (step_of d c) answer) (sym (terminal_now v j port later)) (record {
             nothing_due = refl;
             next = refl;
+            between = rest;
             answers = subst (λ (o : Option ModemCall). OwnAnswer its s v.terminal c o answer) (sym has) refl;
           });
       comes = λ j later.
@@ -190,8 +193,9 @@ right_true false b e = absurd (false≢true e)
 
 pub notes_told : (first : Scene) (session : ModemSession) (v : PortValue) (d : DeskState) (at c : ℕ)
     → IsPort v
+    → begun_at v c ≡ false
     → v.terminal.line_over ≡ true
-    → ((x : ℕ) → is_waiting v.terminal x ≡ true → IsKept v.kept x (caller_at v.terminal x).next)
+    → ((x : ℕ) → is_waiting v.terminal x ≡ true → IsKeptCall v.kept x (caller_at v.terminal x).next)
     → AllInVain (port_now first.port session v) (state_at d 0 []) v.terminal
     → open_is_held (port_now first.port session v) (state_at d 0 []) v.terminal c ≡ true
     → ((played : PlainSession)
@@ -202,7 +206,7 @@ pub notes_told : (first : Scene) (session : ModemSession) (v : PortValue) (d : D
     → (modem_turn played (port_with first.port session j) (state_at d at []) (here first played v) ≡ is_told c)
     × ((here first played v).terminal ≡ v.terminal))
     → Notes first session v d (told_idle d (length v.journal) c) at [] [] (own c (step_of d c) idle)
-notes_told first session v d at c port line kept vain held turns =
+notes_told first session v d at c port rest line kept vain held turns =
     let s = state_at d at [] in
     let n = length v.journal in
     let call = call_in_phase first.port session v.terminal.phase c (step_of d c) in
@@ -218,6 +222,7 @@ notes_told first session v d at c port line kept vain held turns =
           subst (λ (t : Terminal). IsOwn its s t c (step_of d c) idle) (sym (terminal_now v j port later)) (record {
             nothing_due = refl;
             next = refl;
+            between = rest;
             answers = told_answer its s v.terminal c call waits
                 (all_five v.terminal.line_over v.terminal.clock_over
                 (caller_at v.terminal (carrier_on first.port session)).over (nothing_to_flush v.terminal)
@@ -249,6 +254,7 @@ pub notes_pin : (first : Scene) (session : ModemSession) (v : PortValue) (d : De
     (up : Bool)
     → IsPort v
     → (caller_at v.terminal (carrier_on first.port session)).over ≡ false
+    → begun_at v (carrier_on first.port session) ≡ false
     → slice_get (items_from first.port 0 session.phases) d.items
     ≡ Some (record { phase = v.terminal.phase; step = record { pin = pin; up = up } })
     → ((played : PlainSession)
@@ -259,7 +265,7 @@ pub notes_pin : (first : Scene) (session : ModemSession) (v : PortValue) (d : De
     → modem_turn played (port_with first.port session j) (state_at d at []) (here first played v) ≡ sets_pin)
     → Notes first session v d (pinned d (length v.journal) pin up) at []
     (if loses_carrier d.lines pin up then least_live v.terminal else []) (pin_set pin up)
-notes_pin first session v d at pin up port runs item turns =
+notes_pin first session v d at pin up port runs rest item turns =
     let s = state_at d at [] in
     let n = length v.journal in record {
       number = refl;
@@ -269,6 +275,8 @@ notes_pin first session v d at pin up port runs item turns =
           let same = sym (terminal_now v j port later) in record {
             nothing_due = refl;
             in_block = subst (λ (t : Terminal). (caller_at t (carrier_on first.port session)).over ≡ false) same runs;
+            between = subst (λ (t : Terminal). has_begun (caller_at t (carrier_on first.port session)) ≡ false) same
+                rest;
             item = subst (λ (t : Terminal).
                 slice_get (items_from first.port 0 session.phases) d.items
                 ≡ Some (record { phase = t.phase; step = record { pin = pin; up = up } })) same item;
@@ -288,7 +296,7 @@ notes_pin first session v d at pin up port runs item turns =
 
 -- ---- an answer of the port
 
-answer_at : (w : PortValue) (c step : ℕ) (answer : PlainAnswer) (j : Journal)
+abbrev answer_at : (w : PortValue) (c step : ℕ) (answer : PlainAnswer) (j : Journal)
     → WasAnswered w c step answer
     → IsLater w j
     → IsAnswerAt j c (length w.journal) answer
@@ -304,6 +312,15 @@ answer_at w c step answer j was later =
           ∙ get_past was.before (was.entry ∷ later.rest) (n - 1) 0 (omega (arith, count));
       is_answer = was.is_answer;
     }
+
+-- its call is known to each journal to which the port can come
+of_step : (w : PortValue) (c step : ℕ) (call : PlainCall) (answer : PlainAnswer) (j : Journal)
+    → (was : WasAnswered w c step answer)
+    → IsLater w j
+    → call_in w.kept c step ≡ Some call
+    → j.calls c was.entry.step ≡ Some call
+of_step w c step call answer j was later kept =
+    ap (λ (n : ℕ). j.calls c n) was.of_step ∙ later.calls c step call kept
 
 count_before : (v w : PortValue) (e : PlainEntry) → ComesBy v w (e ∷ []) → length w.journal - 1 ≡ length v.journal
 count_before v w e by =
@@ -333,11 +350,12 @@ pub notes_passed : (first : Scene) (session : ModemSession) (v w : PortValue) (d
     → ComesBy v w (e ∷ [])
     → at ≤ length v.journal
     → WasAnswered w c step answer
+    → call_in w.kept c step ≡ Some call
     → call_in_phase first.port session w.terminal.phase c (step_of d c) ≡ Some (plain call)
     → waits_for_carrier d.lines v.terminal (Some (plain call)) ≡ false
     → Notes first session w d (answered_passed d w (has_live v.terminal) c call answer) at [] []
     (passed c (step_of d c) answer)
-notes_passed first session v w d e at c step call answer port behind by low was has goes =
+notes_passed first session v w d e at c step call answer port behind by low was kept has goes =
     let s = state_at d at [] in
     let n = length w.journal in
     let longer : n ≡ length v.journal + 1 =
@@ -350,9 +368,11 @@ notes_passed first session v w d e at c step call answer port behind by low was 
           ap (λ (t : Terminal). next_call its s t c) (terminal_now w j behind later) ∙ has in record {
             nothing_due = refl;
             next = refl;
-            for_port = subst IsPlain (sym here_call) tt;
+            for_port = subst IsForPort (sym here_call) tt;
             entry = answer_at w c step answer j was later;
             at_once = omega (arith, low, longer);
+            of_call = subst (IsOfCall its c was.entry.step) (sym here_call)
+                (of_step w c step call answer j was later kept);
             not_held_up =
                 (λ i. waits_for_carrier d.lines (terminal_at j (count_before v w e by i)) (here_call i))
                 ∙ (ap (λ (t : Terminal). waits_for_carrier d.lines t (Some (plain call)))
@@ -366,11 +386,13 @@ notes_passed first session v w d e at c step call answer port behind by low was 
             next = slice_set d.next c (step_of d c + 1);
             due = [];
           })
-          (lines_then v w e d.lines (next_call (port_with first.port session j) s (terminal_at j n) c) answer j port behind
+          (lines_then v w e d.lines (next_call (port_with first.port session j) s (terminal_at j n) c) answer j port
+          behind
           by later
           ∙ (ap (λ (o : Option ModemCall).
           lines_after_answer d.lines (live_count v.terminal) (live_count w.terminal) o answer)
-          (ap (λ (t : Terminal). next_call (port_with first.port session j) s t c) (terminal_now w j behind later) ∙ has)
+          (ap (λ (t : Terminal). next_call (port_with first.port session j) s t c) (terminal_now w j behind later)
+          ∙ has)
           ∙ settled_answer d.lines v.terminal w.terminal call answer));
       turn = λ played like agrees j later. tt;
     }
@@ -382,8 +404,9 @@ pub notes_lost : (first : Scene) (session : ModemSession) (v w : PortValue) (d :
     → ComesBy v w (e ∷ [])
     → at ≡ length v.journal
     → WasAnswered w (carrier_on first.port session) step done
+    → call_in w.kept (carrier_on first.port session) step ≡ Some (hangs_up h)
     → Notes first session w d (hung_up_through d (length w.journal) h) at (h ∷ []) [] (carrier_lost h)
-notes_lost first session v w d e at step h by now was =
+notes_lost first session v w d e at step h by now was kept =
     let longer : length w.journal ≡ length v.journal + 1 =
     ap (λ (es : List PlainEntry). length es) by.added ∙ length-append v.journal (e ∷ []) in record {
       number = refl;
@@ -392,6 +415,7 @@ notes_lost first session v w d e at step h by now was =
         is_due = refl;
         entry = answer_at w (carrier_on first.port session) step done j was later;
         at_once = omega (arith, now, longer);
+        of_call = of_step w (carrier_on first.port session) step (hangs_up h) done j was later kept;
       };
       comes = λ j later. refl;
       turn = λ played like agrees j later. tt;

@@ -1,5 +1,6 @@
 -- What a turn ends: a caller's calls, an open that waits in vain, an item of the modem block, and the phase.
-use Rattle.std.proofs.Common.{◌≡◌, ◌<◌, ◌⊎◌, inl, inr, ℕ, zero, suc, ◌+◌, ◌-◌, ◌^◌, Bool, true, false, not, ◌&&◌, List, []}
+use Rattle.std.proofs.Common.{◌≡◌, ◌<◌, ◌⊎◌, inl, inr, ℕ, zero, suc, ◌+◌, ◌-◌, ◌^◌, Bool, true, false, not, ◌&&◌, List}
+use Rattle.std.proofs.Common.{[]}
 use Rattle.std.proofs.Common.{◌∷◌, ◌++◌, Option, None, Some, is_some, length, drop, get_or, refl, sym, ap}
 use Rattle.std.proofs.Common.{◌∙◌, subst, arith, length-append}
 use Rattle.std.specs.Prelude.{MatchOption, slice_get, slice_index, slice_set}
@@ -12,10 +13,10 @@ use Rattle.tty_calls.specs.declared.journals.Who.TheVariants.{Caller}
 use Rattle.tty_calls.specs.Plain.{PlainCall, PlainEntry, is_caller}
 use Rattle.tty_terminal.specs.Terminals.{Terminal, caller_at}
 use Rattle.port_core.specs.Ports.{PortValue, IsPort, IsOpen, end_entry}
-use Rattle.one_thread.specs.Stages.{HasAnyOrder}
+use Rattle.play_base.specs.Scenes.{HasAnyOrder}
 use Rattle.one_thread.specs.Turns.{role_numbers, IsAbsent, PlaysOnIn}
 use Rattle.one_thread.specs.Acts.{AddsEntry, EndsCalls, InLast, PlaysEnd, PlaysLast}
-use Rattle.one_thread.specs.declared.roles.Role.{Role}
+use Rattle.play_base.specs.declared.roles.Role.{Role}
 use Rattle.one_thread.specs.declared.after_line.Stand.{Stand}
 use Rattle.one_thread.proofs.AfterLine.{nothing_left}
 use Rattle.one_thread.proofs.Calling.{role_number}
@@ -42,7 +43,8 @@ use Rattle.modem_one.specs.Turns.{port_now, IsNextTurn}
 use Rattle.modem_one.specs.AfterLine.{IsAtTurn, IsTurnOf, IsBetween, EndsTurns}
 use Rattle.modem_one.specs.AfterLine.{IsItemOf, Advances, TakesCall, TakesItem}
 use Rattle.modem_one.proofs.DeskEvents.{notes_told}
-use Rattle.modem_one.proofs.Ranks.{IsOneOf, AllInVain, CallReason, it_can, its_end, in_vain, reason_of, call_reason, told_reason_of}
+use Rattle.modem_one.proofs.Ranks.{IsOneOf, AllInVain, CallReason, it_can, its_end, in_vain, reason_of, call_reason}
+use Rattle.modem_one.proofs.Ranks.{told_reason_of}
 use Rattle.modem_one.proofs.Ranks.{pin_reason}
 use Rattle.modem_one.proofs.Taking.{plays_it, phase_is, roles_at, can_call, can_end, carrier_place, has_role, one_more}
 use Rattle.modem_one.proofs.Taking.{going_begun, rises_one}
@@ -237,7 +239,8 @@ module _ (f : Frame) (roles : List Role) where
     between_last = record {
       at = record {
         playing = last_goes_on f roles old new d was now (next.Call place) place r h.at.playing is refl
-            (can_call f roles old d was place h.at is) at (rests_here old d was left items place r h at none) ends plays;
+            (can_call f roles old d was place h.at is) at (rests_here old d was left items place r h at none) ends
+            plays;
         roles_are = h.at.roles_are;
         next_of_all = h.at.next_of_all;
       };
@@ -339,7 +342,12 @@ module _ (f : Frame) (roles : List Role) where
       let plays = plays_it f roles v d stand [] h.at.playing in
       let its = next_of f roles v d stand left items place r (plain t.call) h t.at_place t.is_next in
       let number = role_number roles place r t.at_place in
-      let notes = notes_told f.first f.session v d h.at.playing.desk.at_entry c port plays.line
+      let rest : begun_at v c ≡ false = elim (test_cases (begun_at v c)) [
+        | inl begun ↦ absurd (false≢true
+            (sym (subst IsNeverHeld its.has (h.at.playing.never_held c begun) d.lines v.terminal) ∙ t.waits))
+        | inr rest ↦ rest
+      ] in
+      let notes = notes_told f.first f.session v d h.at.playing.desk.at_entry c port rest plays.line
       (waits_kept s (f.scripts s) roles v stand plays) t.vain t.held
       (λ played like agrees j later.
       let it = turn_each f roles (passings_with f.session p d (begun_at v)) v d stand (next.Tell place)

@@ -1,11 +1,7 @@
 -- What is passed down follows the log, event by event.
-use Rattle.std.proofs.Common.{◌≡◌, ℕ, ◌+◌, ◌-◌, Bool, cond, ◌==◌, List, [], ◌∷◌, ◌++◌, Option, map, filter, refl, sym}
+use Rattle.std.proofs.Common.{◌≡◌, ℕ, ◌+◌, ◌-◌, List, [], ◌∷◌, ◌++◌, Option, map, refl, sym}
 use Rattle.std.proofs.Common.{ap, ◌∙◌, append-nil}
-use Rattle.std.proofs.lemmas.Bool.{eq-eqb}
-use Rattle.std.proofs.lemmas.List.{map-append}
-use Rattle.std.proofs.lemmas.List.Elements.{filter-append}
 use Rattle.tty_calls.specs.Plain.{hangs_up}
-use Rattle.passed_calls.specs.declared.logs.Logged.{Logged}
 use Rattle.passed_calls.specs.Derived.{Passing, by_caller}
 use Rattle.passed_calls.specs.Logs.{logged_on}
 use Rattle.passed_laws.proofs.Steps.{own_more, other_more}
@@ -15,6 +11,7 @@ use Rattle.modem_steps.specs.Derived.{carrier_on, modem_call_at, plain_call, pas
 use Rattle.modem_steps.specs.Steps.{Port, ModemState, first_state, after_event, Leads}
 use Rattle.port_core.specs.Ports.{PortValue}
 use Rattle.passed_laws.specs.Later.{IsLater}
+use Rattle.passed_laws.proofs.Laters.{events_more}
 use Rattle.modem_one.specs.Later.{HasLogged}
 use Rattle.modem_one.specs.Turns.{journal_of, port_now}
 
@@ -50,14 +47,6 @@ from_more calls carrier n (passed c step answer ∷ es) e =
 from_more calls carrier n (carrier_lost h ∷ es) e =
     ap (λ (ms : List Passing). record { caller = carrier; step = n - 1; calls = hangs_up h ∷ [] } ∷ ms)
     (from_more calls carrier n es e)
-
-events_more : (p at : ℕ) (event : ModemEvent) (log : ModemLog)
-    → events_on p (log ++ record { port = p; at = at; event = event } ∷ []) ≡ events_on p log ++ event ∷ []
-events_more p at event log =
-    let l : Logged ModemEvent = record { port = p; at = at; event = event } in
-    ap (map (λ (x : Logged ModemEvent). x.event)) (filter-append (λ (x : Logged ModemEvent). x.port == p) log (l ∷ [])
-    ∙ ap (λ (b : Bool). filter (λ (x : Logged ModemEvent). x.port == p) log ++ cond b (l ∷ []) []) (eq-eqb p p refl))
-    ∙ map-append (λ (x : Logged ModemEvent). x.event) (filter (λ (x : Logged ModemEvent). x.port == p) log) (l ∷ [])
 
 -- what was passed down by one event more
 abbrev pub more_on : ModemSession → ModemLog → (p : ℕ) → ModemEvent → List Passing

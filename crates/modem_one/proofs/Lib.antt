@@ -3,7 +3,6 @@ pub mod Following
 pub mod Logging
 pub mod NeverHeld
 pub mod Ordering
-pub mod Owned
 pub mod Possible
 pub mod Ranks
 pub mod Settled
@@ -15,7 +14,6 @@ pub mod LeftItems
 pub mod Asking
 pub mod Taking
 pub mod WithinCalls
-pub mod Hangups
 pub mod NextInPhase
 pub mod Between
 pub mod Ending

@@ -4,7 +4,8 @@ use Rattle.std.specs.Prelude.{is_some, if◌then◌else◌}
 use Rattle.std.proofs.lemmas.Bool.{false≢true}
 use Rattle.tty_calls.specs.Plain.{PlainCall, opens, closes, reads, writes, gets_modes, sets_modes, gets_disc, sets_disc}
 use Rattle.tty_calls.specs.Plain.{flushes, steers, counts_input, counts_output, excludes, admits, drains, gets_counts}
-use Rattle.tty_calls.specs.Plain.{hangs_up, sends_packet, takes_packet, PlainAnswer, done, refused, PlainEvent, answered, parted, waited, flushed}
+use Rattle.tty_calls.specs.Plain.{hangs_up, sends_packet, takes_packet, PlainAnswer, done, refused, PlainEvent}
+use Rattle.tty_calls.specs.Plain.{answered, parted, waited, flushed}
 use Rattle.tty_calls.specs.Plain.{ticked, line_ended, clock_ended, caller_ended, phase_ended, hung_up}
 use Rattle.tty_calls.specs.declared.journals.Who.TheVariants.{Caller}
 use Rattle.handle_table.specs.Handles as table

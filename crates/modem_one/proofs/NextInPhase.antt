@@ -4,7 +4,7 @@ use Rattle.std.proofs.Common.{◌∙◌, subst, map, []}
 use Rattle.std.specs.Prelude.{slice_get, slice_index_or, unwrap_or}
 use Rattle.std.specs.Str.{bytes_eq}
 use Rattle.tty_calls.specs.Sessions.{number_in}
-use Rattle.one_thread.proofs.NameLemmas.{eq_name, get_at, number_at}
+use Rattle.play_base.proofs.NameLemmas.{eq_name, get_at, number_at}
 use Rattle.passed_calls.specs.Blocks.{bare, blocks_on, names_on}
 use Rattle.calls_left.specs.Remaining.{IsLeftTo}
 use Rattle.modem_text.specs.Sessions.{ModemCall, ModemSession, carrier_name, blocks_in}

@@ -7,7 +7,7 @@ use Rattle.std.proofs.lemmas.Bool.{false≢true}
 use Rattle.tty_calls.specs.declared.journals.Who.TheVariants.{Caller, Flusher, Clock, Session}
 use Rattle.tty_terminal.specs.Terminals.{Terminal, caller_at}
 use Rattle.tty_terminal.specs.Steps.{nothing_to_flush}
-use Rattle.one_thread.specs.Order.{must_wait, is_waiting, can_go_on as port_goes_on}
+use Rattle.one_order.specs.Order.{must_wait, is_waiting, can_go_on as port_goes_on}
 use Rattle.modem_steps.specs.Derived.{carrier_on}
 use Rattle.modem_steps.specs.Steps.{Port, ModemState, next_call, callers_in, waits_for_carrier, is_held_up}
 use Rattle.modem_steps.specs.Order.{Turn, goes_on, sets_pin, is_told, open_is_held}
@@ -243,7 +243,7 @@ module _ (port : Port) (s : ModemState) (t : Terminal) where
       subst (Reason port s t) (sym e)
       (item_reason (has_item port s t) refl (record { idle = idle; none_can = all }))
 
-  idle_reason : (idle : Bool)
+  pub idle_reason : (idle : Bool)
       → nothing_to_flush t ≡ idle
       → Reason port s t
       (if not idle then goes_on Flusher

@@ -1,5 +1,5 @@
--- The steps of the callers of a port in its phases: those of callers count their calls, and those of `carrier` the items
--- of the modem blocks.
+-- The steps of the callers of a port in its phases: those of callers count their calls, and those of `carrier` the
+-- items of the modem blocks.
 use Rattle.std.proofs.Common.{◌≡◌, ◌≤◌, ◌<◌, ◌⊎◌, inl, inr, ℕ, zero, suc, ◌+◌, ◌==◌, Bool, false, cond}
 use Rattle.std.proofs.Common.{List, [], ◌∷◌, ◌++◌, Option, None, Some, length, map, take, drop}
 use Rattle.std.proofs.Common.{if◌then◌else◌, refl, sym, ap, ◌∙◌, arith, append_assoc, length-append}
@@ -10,7 +10,7 @@ use Rattle.std.proofs.lemmas.Bool.{eq-eqb, ne_eqb}
 use Rattle.std.proofs.lemmas.Bool.Decides.{nat_tests}
 use Rattle.std.proofs.lemmas.List.Elements.{filter-append}
 use Rattle.std.proofs.lemmas.List.Sums.{sum_by-cons, sum_by-append}
-use Rattle.journal_check.proofs.NameLemmas.{same_name}
+use Rattle.legal_runs.proofs.NameLemmas.{same_name}
 use Rattle.tty_calls.specs.Sessions.{PlainScript, names_of}
 use Rattle.passed_calls.specs.Blocks.{Block, bare, blocks_on, names_on, steps_under}
 use Rattle.passed_calls.specs.Derived.{BlockPhase, blocks_of}
@@ -234,15 +234,20 @@ take_and_drop zero xs = refl
 take_and_drop (suc k) [] = refl
 take_and_drop {X} (suc k) (x ∷ xs) = ap (λ (ys : List X). x ∷ ys) (take_and_drop k xs)
 
--- the calls of the first phases are the first of all
+-- the calls of the first of some phases are the first of all
+pub calls_parts : (p : ℕ) (session : ModemSession) (phases : List ModemPhase) (k c : ℕ)
+    → calls_over p session phases c
+    ≡ calls_over p session (take k phases) c ++ calls_over p session (drop k phases) c
+calls_parts p session phases k c =
+    let o = slice_get (names_on p (blocks_in session)) c in
+    ap (λ (ps : List ModemPhase). calls_named o (scripts_over p ps)) (take_and_drop k phases)
+    ∙ (ap (calls_named o) (scripts_append p (take k phases) (drop k phases))
+    ∙ named_or_append o (scripts_over p (take k phases)) (scripts_over p (drop k phases)))
+
 pub calls_front : (p : ℕ) (session : ModemSession) (k c : ℕ)
     → calls_over p session session.phases c
     ≡ calls_over p session (take k session.phases) c ++ calls_over p session (drop k session.phases) c
-calls_front p session k c =
-    let o = slice_get (names_on p (blocks_in session)) c in
-    ap (λ (ps : List ModemPhase). calls_named o (scripts_over p ps)) (take_and_drop k session.phases)
-    ∙ (ap (calls_named o) (scripts_append p (take k session.phases) (drop k session.phases))
-    ∙ named_or_append o (scripts_over p (take k session.phases)) (scripts_over p (drop k session.phases)))
+calls_front p session k c = calls_parts p session session.phases k c
 
 not_below : (a b : ℕ) → b ≤ a → nat_lt a b ≡ false
 not_below a b le = grind (arith, nat_tests)
@@ -289,8 +294,8 @@ abbrev pub NoneIsCarrier : ℕ → List ModemPhase → Type 0
 NoneIsCarrier p phases =
     (k : ℕ) (phase : ModemPhase) → slice_get phases k ≡ Some phase → named carrier_name (on_port p phase.callers) ≡ []
 
-abbrev pub items_of_port : ℕ → List ModemPhase → List (List PinStep)
-items_of_port p phases = map (pins_on p) phases
+abbrev pub pins_by_phase : ℕ → List ModemPhase → List (List PinStep)
+pins_by_phase p phases = map (pins_on p) phases
 
 abbrev pub count_of : List (List PinStep) → ℕ
 count_of [] = 0
@@ -300,7 +305,7 @@ items_counted : (ports p : ℕ) (phases : List ModemPhase)
     → p < ports
     → NoneIsCarrier p phases
     → steps_under carrier_name (blocks_on p (blocks_of (map (block_phase_of ports) phases)))
-    ≡ count_of (items_of_port p phases)
+    ≡ count_of (pins_by_phase p phases)
 items_counted ports p [] lt none = refl
 items_counted ports p (phase ∷ phases) lt none =
     let steps : ℕ → ℕ = λ q. length (pins_on q phase) in
@@ -320,7 +325,8 @@ items_counted ports p (phase ∷ phases) lt none =
     let later = items_counted ports p phases lt (λ k x is. none (suc k) x is) in
     omega (arith, nobody, callers, one, parts_are, both, later)
 
-front_of : {X : Type 0} (n : ℕ) (xs : List X) (k : ℕ) (x : X) → slice_get (take n xs) k ≡ Some x → slice_get xs k ≡ Some x
+front_of : {X : Type 0} (n : ℕ) (xs : List X) (k : ℕ) (x : X) → slice_get (take n xs) k ≡ Some x → slice_get xs k
+    ≡ Some x
 front_of zero xs k x is = absurd (cc)
 front_of (suc n) [] k x is = absurd (cc)
 front_of (suc n) (y ∷ xs) zero x is = is
@@ -331,7 +337,7 @@ pub carrier_counts : (p : ℕ) (session : ModemSession) (k : ℕ)
     → p < session.ports
     → NoneIsCarrier p session.phases
     → slice_get (names_on p (blocks_in session)) (carrier_on p session) ≡ Some carrier_name
-    → begin_of p (block_phases session) k (carrier_on p session) ≡ count_of (items_of_port p (take k session.phases))
+    → begin_of p (block_phases session) k (carrier_on p session) ≡ count_of (pins_by_phase p (take k session.phases))
 carrier_counts p session k lt none is =
     let there : slice_get (names_on p (blocks_of (block_phases session))) (carrier_on p session) ≡ Some carrier_name =
     ap (λ (ns : List (List ℕ)). slice_get ns (carrier_on p session)) (sym (names_same p session)) ∙ is in

@@ -1,5 +1,6 @@
 -- The turns of a phase of a port with modem lines, as the player's functions take them.
-use Rattle.std.proofs.Common.{◌≡◌, ◌≤◌, ◌<◌, ◌⊎◌, inl, inr, ℕ, ◌+◌, ◌-◌, ◌^◌, zero, suc, Bool, true, false, not, ◌&&◌, List, []}
+use Rattle.std.proofs.Common.{◌≡◌, ◌≤◌, ◌<◌, ◌⊎◌, inl, inr, ℕ, ◌+◌, ◌-◌, ◌^◌, zero, suc, Bool, true, false, not, ◌&&◌}
+use Rattle.std.proofs.Common.{List, []}
 use Rattle.std.proofs.Common.{◌∷◌, ◌++◌, Option, None, Some, length, get_or, if◌then◌else◌, refl, sym, ap, ◌∙◌, subst}
 use Rattle.std.proofs.Common.{arith, length-append}
 use Rattle.std.specs.Prelude.{MatchOption, ◌==◌, position, slice_get, slice_index, slice_index_or, slice_set}
@@ -8,6 +9,7 @@ use Rattle.std.proofs.lemmas.Option.{get_or_from_slice_get, same_Some}
 use Rattle.std.proofs.lemmas.List.{length-set, length-map}
 use Rattle.std.proofs.lemmas.List.Quantifiers.{position-Some}
 use Rattle.std.specs.Option.{option_to_list}
+use Rattle.tty_base.specs.Sizes.{MOST_HANDLES}
 use Rattle.handle_table.specs.Handles.{is_live}
 use Rattle.live_handles.proofs.HandleNumbers.{are_numbers}
 use Rattle.tty_calls.specs.declared.answers.Denied.{Denied}
@@ -20,11 +22,11 @@ use Rattle.tty_terminal.specs.Terminals.{Terminal, caller_at}
 use Rattle.tty_terminal.proofs.WaitLaws.{run_waits, run_parts}
 use Rattle.port_core.specs.Attempts.{PlainTried, done_by, took_part, must_wait}
 use Rattle.port_core.specs.Ports.{PortValue, IsPort, IsOpen, Denies, call_in}
-use Rattle.one_thread.specs.Order.{is_waiting, must_wait as port_waits, can_go_on as port_goes_on}
-use Rattle.one_thread.specs.Stages.{HasAnyOrder}
-use Rattle.one_thread.specs.Turns.{role_numbers, who_of, IsFree, IsPossible, PlaysIn, PlaysOnIn, TakesTurn as TakesIt}
+use Rattle.one_order.specs.Order.{is_waiting, must_wait as port_waits, can_go_on as port_goes_on}
+use Rattle.play_base.specs.Scenes.{HasAnyOrder}
+use Rattle.one_thread.specs.Turns.{role_numbers, who_of, IsFree, IsPossible, PlaysIn, PlaysOnIn, TakesTurn}
 use Rattle.one_thread.specs.Acts.{AddsEntry, InTurn, InCall, PlaysTurn, TriesCall, PlaysCall}
-use Rattle.one_thread.specs.declared.roles.Role.{Role}
+use Rattle.play_base.specs.declared.roles.Role.{Role}
 use Rattle.one_thread.specs.declared.after_line.Stand.{Stand}
 use Rattle.one_thread.specs.declared.after_line.Turn.{Turn}
 use Rattle.one_thread.specs.declared.after_line.Turn.TheVariants as turn
@@ -49,15 +51,16 @@ use Rattle.modem_one.specs.declared.turns.Next.TheVariants as next
 use Rattle.modem_one.specs.Desk.{DeskState, step_of, answered_passed, controlled, pinned}
 use Rattle.modem_one.specs.Desk.{hung_up_through, state_at}
 use Rattle.modem_one.specs.Controls.{has_live}
-use Rattle.modem_one.specs.Playing.{Frame, call_after, passings_with, hangup_with, step_next, IsNeverHeld, IsPlayingModems}
+use Rattle.modem_one.specs.Playing.{Frame, call_after, passings_with, hangup_with, step_next, IsNeverHeld}
+use Rattle.modem_one.specs.Playing.{IsPlayingModems}
 use Rattle.modem_steps.specs.Order.{goes_on, turn_by_rank}
 use Rattle.modem_one.specs.Turns.{port_now, whose, IsNextTurn}
 use Rattle.modem_one.specs.AfterLine.{IsFrameWithin, IsAtTurn, IsTurnOf, IsNextOf, IsItemOf}
-use Rattle.modem_one.specs.AfterLine.{IsHangingUp, Advances, TakesCall, TakesTurn, TakesItem, TakesHangup}
+use Rattle.modem_one.specs.AfterLine.{IsHangingUp, Advances, TakesCall, TakesNoCall, TakesItem, TakesHangup}
 use Rattle.modem_one.specs.AfterLine.{FillsTurns, StopsTurns}
 use Rattle.modem_one.proofs.Possible.{rest_case, may_flush, may_call, may_pass, may_end}
 use Rattle.modem_one.proofs.DeskEvents.{notes_own, notes_passed, notes_pin, notes_lost}
-use Rattle.modem_one.proofs.Hangups.{is_done}
+use Rattle.passed_laws.proofs.Hangups.{is_done}
 use Rattle.modem_one.proofs.Ranks.{CallReason, it_can, its_end, in_vain, reason_of, call_reason, same_turn_caller}
 use Rattle.modem_one.proofs.Turning.{Tries, turn_each, turn_goes_on, noted_goes_on, call_begins, call_continues}
 use Rattle.modem_one.proofs.Turning.{call_waits, call_answered, hangup_begins, hangup_goes_on}
@@ -195,10 +198,10 @@ module _ (f : Frame) (roles : List Role) where
       → PlaysTurn roles old new was now taken
       → AddsEntry old new
       → IsOpen old
-      → TakesTurn f roles old new d now
+      → TakesNoCall f roles old new d now
   takes_turn old new d was now turn_is taken at is possible who none plays adds room =
       let in_turn = in_turn_at old d was taken at possible in
-      let takes : TakesIt in_turn.scene in_turn.scripts roles old new was now taken = plays.each in_turn in
+      let takes : TakesTurn in_turn.scene in_turn.scripts roles old new was now taken = plays.each in_turn in
       record {
         at = record {
           playing = turn_goes_on f roles old new d was now turn_is taken at.playing is who possible none plays adds;
@@ -307,7 +310,8 @@ module _ (f : Frame) (roles : List Role) where
       let number = role_number roles place r here in
       let reason : CallReason port s v.terminal r.number =
       subst (CallReason port s v.terminal) number
-      (call_reason port s v.terminal _ (slice_index (role_numbers roles) place) (reason_of port d 0 v.terminal) (sym is))
+      (call_reason port s v.terminal _ (slice_index (role_numbers roles) place) (reason_of port d 0 v.terminal)
+      (sym is))
       in
       unheld_by v d r.number no_wait other reason
 
@@ -454,6 +458,7 @@ module _ (f : Frame) (roles : List Role) where
   takes_answered old new d x was now place call answer live r frame at is h port later live_is tries plays said =
       let c = h.role.number in
       let y = answered_passed d new (has_live old.terminal) c call answer in
+      let makes = makes_as roles old new place h.role call h.at_place (done_by answer) tries in
       let y_is : x ≡ y =
       said
       ∙ (λ i. answered_passed d new (live_is i) (at_role place h.role r h.at_place i).number call answer) in
@@ -463,7 +468,7 @@ module _ (f : Frame) (roles : List Role) where
               refl (tries_it old new d was now place call (done_by answer) frame at is h tries plays) h.known refl refl
               (λ e by answered phase.
               notes_passed f.first f.session old new d e at.playing.desk.at_entry c (caller_at old.terminal c).next call
-              answer port later by at.playing.desk.logged.at answered
+              answer port later by at.playing.desk.logged.at answered makes.kept
               (ap (λ (k : ℕ). call_in_phase p f.session k c (step_of d c)) phase
               ∙ call_here old d was place (plain call) at h) (not_held old d was place call at is h));
           roles_are = at.roles_are;
@@ -478,7 +483,8 @@ module _ (f : Frame) (roles : List Role) where
           length-append old.journal (tries.makes.entry ∷ []),
         );
       } in
-      subst (λ (z : DeskState). TakesCall f roles place old new d z (record { answered = true; stand = now })) (sym y_is)
+      subst (λ (z : DeskState). TakesCall f roles place old new d z (record { answered = true; stand = now }))
+      (sym y_is)
       passes
 
   -- ---- a call of modem lines
@@ -516,7 +522,11 @@ module _ (f : Frame) (roles : List Role) where
       let y_is : x ≡ y =
       said ∙ ap (λ (z : Role). controlled d v z.number own_call) (at_role place h.role r h.at_place) in
       let number = role_number roles place h.role h.at_place in
-      let notes = notes_own f.first f.session v d at.playing.desk.at_entry c own_call port
+      let rest : begun_at v c ≡ false = elim (test_cases (begun_at v c)) [
+        | inl begun ↦ absurd (no_further own_call (subst IsNeverHeld h.has (at.playing.never_held c begun)))
+        | inr rest ↦ rest
+      ] in
+      let notes = notes_own f.first f.session v d at.playing.desk.at_entry c own_call port rest
       (call_here v d stand place (further own_call) at h)
       (λ played like agrees j later.
       let it = turn_each f roles (passings_with f.session p d (begun_at v)) v d stand (next.Call place)
@@ -553,6 +563,7 @@ module _ (f : Frame) (roles : List Role) where
   item_noted v d stand item due at is port h due_is few =
       let y = pinned d (length v.journal) item.pin item.up in
       let notes = notes_pin f.first f.session v d at.playing.desk.at_entry item.pin item.up port h.runs
+      at.playing.carrier_rests
       (h.has ∙ ap (λ (k : ℕ). Some (record { phase = k; step = item })) (sym (phase_is v d stand [] at.playing)))
       (λ played like agrees j later.
       (turn_each f roles (passings_with f.session p d (begun_at v)) v d stand next.Pin at.playing.desk.at_entry
@@ -650,7 +661,7 @@ module _ (f : Frame) (roles : List Role) where
         within = omega (arith, there.0, length-map roles (λ (r : Role). r.number));
       } in
       let found = position-Some is_live v.terminal.handles handle None least in
-      let few : handle < 32 = subst (λ (n : ℕ). handle < n) (are_numbers v port) found.0 in
+      let few : handle < MOST_HANDLES = subst (λ (n : ℕ). handle < n) (are_numbers v port) found.0 in
       subst (λ (z : DeskState). IsHangingUp f roles v z stand handle) (sym said) (record {
         playing = playing;
         roles_are = at.roles_are;
@@ -674,7 +685,8 @@ module _ (f : Frame) (roles : List Role) where
       → IsHangingUp f roles v d stand handle
       → InCall roles v stand (length roles - 1) (hangs_up handle)
   in_hangup v d stand handle h =
-      any_in_call f.first (block_phases f.session) f.scripts roles f.start (hangup_with f.session p d v handle) v f.ticks
+      any_in_call f.first (block_phases f.session) f.scripts roles f.start (hangup_with f.session p d v handle) v
+      f.ticks
       stand (length roles - 1) (hangs_up handle) h.calling h.possible
 
   pub takes_hangup : (old new : PortValue) (d x : DeskState) (was now : Stand) (handle : ℕ) (tried : PlainTried)
@@ -704,7 +716,9 @@ module _ (f : Frame) (roles : List Role) where
               h.none_goes_on h.at_place h.is_carrier
               (role_number roles place h.role h.at_place ∙ h.is_carrier) h.some refl refl
               (λ e by was_done. notes_lost f.first f.session old new d e h.playing.desk.at_entry
-              (caller_at old.terminal carrier).next handle by (h.playing.desk.late handle refl) was_done)
+              (caller_at old.terminal carrier).next handle by (h.playing.desk.late handle refl) was_done
+              (subst (λ (c : ℕ). call_in new.kept c (caller_at old.terminal c).next ≡ Some call) h.is_carrier
+              makes.kept))
               tries_done plays;
           roles_are = h.roles_are;
           next_of_all = h.next_of_all;

@@ -1,7 +1,7 @@
 -- A player of a port with modem lines, turn by turn.
-use Rattle.std.proofs.Common.{◌≡◌, ◌≤◌, ◌<◌, ◌⊎◌, inl, inr, ℕ, ◌+◌, ◌-◌, ◌==◌, ◌||◌, Bool, true, false}
+use Rattle.std.proofs.Common.{◌≡◌, ◌≤◌, ◌<◌, ◌⊎◌, inl, inr, ℕ, ◌+◌, ◌-◌, ◌==◌, Bool, true, false}
 use Rattle.std.proofs.Common.{List, [], ◌∷◌, ◌++◌, Option, None, Some, length, if◌then◌else◌}
-use Rattle.std.proofs.Common.{refl, sym, ap, ◌∙◌, subst, arith, append-nil, length-append}
+use Rattle.std.proofs.Common.{refl, sym, ap, ◌∙◌, subst, arith, append-nil}
 use Rattle.std.specs.Prelude.{All, slice_get, slice_index, slice_index_or, slice_set}
 use Rattle.std.proofs.lemmas.Bool.{cases_eq, false≢true, ne_eqb, eq-eqb}
 use Rattle.std.proofs.lemmas.List.Elements.{All-append, All-cons, All-nil}
@@ -11,42 +11,40 @@ use Rattle.tty_calls.specs.Limits.{IsCallWithin}
 use Rattle.tty_calls.specs.Plain.{PlainCall, hangs_up, PlainAnswer, done, PlainEntry, is_caller}
 use Rattle.tty_calls.specs.Sessions.{PlainSession, call_at, counts_on}
 use Rattle.tty_terminal.specs.Terminals.{caller_at}
-use Rattle.tty_terminal.specs.Runs.{Grows, is_of_call}
+use Rattle.tty_terminal.specs.Runs.{is_of_call}
 use Rattle.tty_terminal.specs.Steps.{IsAllowed}
-use Rattle.passed_calls.specs.Derived.{Passing, BlockPhase, AreInSteps, by_caller, all_calls, calls_at}
+use Rattle.passed_calls.specs.Derived.{Passing, BlockPhase, by_caller}
 use Rattle.passed_calls.specs.Journals.{Journal}
 use Rattle.passed_calls.specs.Scripts.{plain}
 use Rattle.passed_calls.specs.Within.{AreBlocksWithin}
 use Rattle.port_core.specs.Attempts.{PlainTried, done_by, took_part, must_wait, Attempts}
-use Rattle.port_core.specs.Ports.{PortValue, call_in, end_entry}
-use Rattle.one_thread.specs.Order.{IsPieceOf}
-use Rattle.one_thread.specs.Roles.{Scene}
-use Rattle.one_thread.specs.Stages.{HasAnyOrder, IsOfSceneIn}
-use Rattle.one_thread.specs.Turns.{role_numbers, who_of, standing_at, IsPossible, PlaysIn, PlaysOnIn, TakesTurn}
+use Rattle.port_core.specs.Ports.{PortValue, end_entry}
+use Rattle.one_order.specs.Order.{IsPieceOf}
+use Rattle.play_base.specs.Roles.{Scene}
+use Rattle.play_base.specs.Scenes.{HasAnyOrder}
+use Rattle.one_thread.specs.Turns.{role_numbers, who_of, IsPossible, PlaysIn, PlaysOnIn, TakesTurn}
 use Rattle.one_thread.specs.Acts.{AddsEntry, PlaysTurn, MakesCall, TriesCall, PlaysCall, EndsCalls, PlaysLast}
-use Rattle.one_thread.specs.declared.roles.Role.{Role}
+use Rattle.play_base.specs.declared.roles.Role.{Role}
 use Rattle.one_thread.specs.declared.after_line.Stand.{Stand}
 use Rattle.one_thread.specs.declared.after_line.Turn.{Turn}
 use Rattle.one_thread.specs.declared.after_line.Turn.TheVariants as turn
 use Rattle.one_thread.proofs.Entries.{place_is}
 use Rattle.order_laws.specs.Agreed.{Agrees, IsLike}
 use Rattle.order_laws.proofs.Agreeing.{before_all}
-use Rattle.journal_check.proofs.NameLemmas.{get_past}
-use Rattle.passed_laws.specs.Passed.{begin_of, IsOfBlocks, AreUpTo, PassesMore}
+use Rattle.passed_laws.specs.Passed.{begin_of, IsOfBlocks, PassesMore}
 use Rattle.passed_laws.specs.Witness.{scene_on, IsPlayingIn, IsCallingIn}
 use Rattle.passed_laws.specs.Later.{IsLater, ComesBy, WasAnswered}
 use Rattle.passed_laws.specs.Begun.{begun_at, begun_with}
 use Rattle.passed_laws.proofs.InOrders.{same_entry}
-use Rattle.passed_laws.proofs.Possible.{any_in_turn, any_turn_on, any_next, any_in_call, any_call_on, any_in_last}
+use Rattle.passed_laws.proofs.Possible.{any_in_turn, any_turn_on, any_in_call, any_call_on, any_in_last}
 use Rattle.passed_laws.proofs.Possible.{any_last_on, turn_taken, call_taken, last_taken}
-use Rattle.passed_laws.proofs.Nexts.{next_of_call}
-use Rattle.passed_laws.proofs.Growing.{calls_all}
-use Rattle.passed_laws.proofs.Passings.{all_more, in_steps_more}
 use Rattle.passed_laws.proofs.BegunBefore.{begun_same, begun_still, begun_elsewhere, begun_by_none}
 use Rattle.passed_laws.proofs.Attempted.{makes_as, attempts_as, begins, other_is, who_is, step_is}
 use Rattle.passed_laws.proofs.Attempted.{begins_by_wait, begins_by_part, begun_now, was_answered, ended_now}
 use Rattle.passed_laws.proofs.Steps.{tail, tail_same, tail_none, tail_one, step_own, step_other}
-use Rattle.passed_laws.proofs.Steps.{before_more, none_at, in_steps_below}
+use Rattle.passed_laws.proofs.Steps.{before_more}
+use Rattle.passed_laws.proofs.Callings.{comes, kept_grows, begun_elsewhere_too, begun_here, and_then, passes_then}
+use Rattle.passed_laws.proofs.Callings.{rests_at, begun_then, plays_as, more_is_next, next_begins, next_continues}
 use Rattle.modem_text.specs.Events.{ModemEvent, passed, carrier_lost, ModemLog}
 use Rattle.modem_text.specs.Sessions.{ModemCall, ModemSession}
 use Rattle.modem_steps.specs.Derived.{block_phases, carrier_on, modem_call_at, plain_call, passings_on}
@@ -81,37 +79,8 @@ module _ (f : Frame) (roles : List Role) where
   abbrev Plays : (ℕ → List Passing) → PortValue → Stand → Type 0
   Plays mine v stand = IsPlayingIn HasAnyOrder f.first phases f.scripts roles f.start mine v f.ticks stand
 
-  plays_as : (mine more : ℕ → List Passing) (v : PortValue) (stand : Stand)
-      → ((c : ℕ) → mine c ≡ more c)
-      → Plays mine v stand
-      → Plays more v stand
-  plays_as mine more v stand same h =
-      subst (λ (ms : ℕ → List Passing). Plays ms v stand) (λ i. λ c. same c i) h
-
-  calls_as : (mine more : ℕ → List Passing) (v : PortValue) (stand : Stand) (place : ℕ) (call : PlainCall)
-      → ((c : ℕ) → mine c ≡ more c)
-      → IsCallingIn HasAnyOrder f.first phases f.scripts roles f.start mine v f.ticks stand place call
-      → IsCallingIn HasAnyOrder f.first phases f.scripts roles f.start more v f.ticks stand place call
-  calls_as mine more v stand place call same h = subst (λ (ms : ℕ → List Passing).
-      IsCallingIn HasAnyOrder f.first phases f.scripts roles f.start ms v f.ticks stand place call)
-      (λ i. λ c. same c i) h
-
-  -- a port of the scene comes to another one of it
-  comes : (s : Scene) (v w : PortValue) (part : List PlainEntry)
-      → IsOfSceneIn HasAnyOrder s v
-      → IsOfSceneIn HasAnyOrder s w
-      → w.journal ≡ v.journal ++ part
-      → Grows (call_in v.kept) (call_in w.kept)
-      → ComesBy v w part
-  comes s v w part was now added grows = record {
-    added = added;
-    grows = grows;
-    counts = now.counts ∙ sym was.counts;
-    capacity = now.capacity ∙ sym was.capacity;
-  }
-
-  kept_grows : (v w : PortValue) → w.kept ≡ v.kept → Grows (call_in v.kept) (call_in w.kept)
-  kept_grows v w same = subst (λ ks. Grows (call_in v.kept) (call_in ks)) (sym same) (λ c step call is. is)
+  abbrev logged : DeskState → ℕ → List Passing
+  logged d c = by_caller c (passings_on session d.log p)
 
   -- ---- whose turn it is, in each session that agrees with the port
 
@@ -192,14 +161,16 @@ module _ (f : Frame) (roles : List Role) where
       comes s old new (on.adds.entry ∷ []) at.plays.of_scene on.plays.of_scene on.adds.added
       (kept_grows old new adds.kept) in
       record {
-        playing = plays_as mine (passings_with session p d (begun_at new)) new now
+        playing = plays_as HasAnyOrder f.first phases f.scripts roles f.start f.ticks mine
+            (passings_with session p d (begun_at new)) new now
             (λ c. ap (λ (b : Bool). by_caller c (passings_on session d.log p) ++ tail b (next_passing session p d c))
             (sym (begun_same s old new on.adds c (other c))))
             (any_turn_on f.first phases f.scripts roles f.start mine old new f.ticks was now taken h.playing possible
             none plays adds);
         desk = desk_entry f.first session old new d on.adds.entry by h.desk
             (taken_in_turn mine old new d was now h.desk.at_entry [] taken on.adds.entry h.playing by
-            (turn_taken f.first f.scripts roles f.start old new f.ticks was now taken h.playing.each possible plays adds)
+            (turn_taken f.first f.scripts roles f.start old new f.ticks was now taken h.playing.each possible plays
+            adds)
             (λ played like agrees j later.
             (turn_each mine old d was next h.desk.at_entry h.playing is played like agrees j later).0 ∙ who));
         logged_before = h.logged_before;
@@ -235,14 +206,16 @@ module _ (f : Frame) (roles : List Role) where
       comes s old new (on.adds.entry ∷ []) in_it.in_turn.plays.of_scene on.plays.of_scene on.adds.added
       (kept_grows old new kept) in
       record {
-        playing = plays_as mine (passings_with session p d (begun_at new)) new now
+        playing = plays_as HasAnyOrder f.first phases f.scripts roles f.start f.ticks mine
+            (passings_with session p d (begun_at new)) new now
             (λ c. ap (λ (b : Bool). by_caller c (passings_on session d.log p) ++ tail b (next_passing session p d c))
             (sym (begun_still s old new on.adds c none)))
             (any_last_on f.first phases f.scripts roles f.start mine old new f.ticks was now place r h.playing possible
             at rest ends plays);
         desk = desk_entry f.first session old new d on.adds.entry by h.desk
             (taken_in_turn mine old new d was now h.desk.at_entry [] (turn.Call place) on.adds.entry h.playing by
-            (last_taken f.first f.scripts roles f.start old new f.ticks was now place h.playing.each possible ends plays)
+            (last_taken f.first f.scripts roles f.start old new f.ticks was now place h.playing.each possible ends
+            plays)
             (λ played like agrees j later.
             (turn_each mine old d was next h.desk.at_entry h.playing is played like agrees j later).0 ∙ who));
         logged_before = h.logged_before;
@@ -268,7 +241,8 @@ module _ (f : Frame) (roles : List Role) where
       ap (λ (log : ModemLog). passings_on session log p) log_is
       ∙ logged_more session d.log p (length v.journal) event none in
       record {
-        playing = plays_as (passings_with session p d (begun_at v)) (passings_with session p x (begun_at v)) v stand
+        playing = plays_as HasAnyOrder f.first phases f.scripts roles f.start f.ticks
+            (passings_with session p d (begun_at v)) (passings_with session p x (begun_at v)) v stand
             (λ c. (λ i. by_caller c (sym same i) ++ tail (begun_at v c) (next_passing session p d c))
             ∙ ap (λ (ms : List Passing). by_caller c (passings_on session x.log p) ++ ms)
             (tail_same (begun_at v c) (next_passing session p d c) (next_passing session p x c) (λ begun.
@@ -290,20 +264,6 @@ module _ (f : Frame) (roles : List Role) where
 
   abbrev pub with_call : DeskState → PortValue → ℕ → ℕ → List Passing
   with_call d v c = passings_with session p d (begun_with v c)
-
-  or_left : (a b : Bool) → a ≡ true → (a || b) ≡ true
-  or_left true b e = refl
-  or_left false b e = absurd (false≢true e)
-
-  or_right : (a b : Bool) → a ≡ false → (a || b) ≡ b
-  or_right true b e = absurd (false≢true (sym e))
-  or_right false b e = refl
-
-  begun_elsewhere_too : (v : PortValue) (c x : ℕ) → (x ≡ c → ⊥) → begun_with v c x ≡ begun_at v x
-  begun_elsewhere_too v c x other = or_right (x == c) (begun_at v x) (ne_eqb x c other)
-
-  begun_here : (v : PortValue) (c : ℕ) → begun_with v c c ≡ true
-  begun_here v c = or_left (c == c) (begun_at v c) (eq-eqb c c refl)
 
   one_call : (o : Option ModemCall) (call : PlainCall) → o ≡ Some (plain call) → plain_call o ≡ call ∷ []
   one_call o call is = ap plain_call is
@@ -329,95 +289,27 @@ module _ (f : Frame) (roles : List Role) where
       → call_after session p d r.number ≡ Some (plain call)
       → begin_of p phases v.terminal.phase r.number ≤ step_of d r.number
       → step_of d r.number < begin_of p phases (v.terminal.phase + 1) r.number
-      → IsCallingIn HasAnyOrder f.first phases f.scripts roles f.start (with_call d v r.number) v f.ticks stand place call
+      → IsCallingIn HasAnyOrder f.first phases f.scripts roles f.start (with_call d v r.number) v f.ticks stand place
+      call
   call_begins v d stand place r call h possible at is_caller rest blocks limits good has low high =
-      let c = r.number in
-      let m = next_passing session p d c in
-      let mine = passings_with session p d (begun_at v) in
-      let more = with_call d v c in
-      let ms = by_caller c (passings_on session d.log p) in
-      let before : AreLoggedBefore session d.log p c (step_of d c) =
-      subst (λ (n : ℕ). AreLoggedBefore session d.log p c n) (step_is_next d [] c is_caller) (h.logged_before c) in
-      let own_mine : mine c ≡ ms =
-      ap (λ (t : List Passing). ms ++ t) (tail_none (begun_at v c) m rest) ∙ append-nil ms in
-      let own_more : more c ≡ ms ++ m ∷ [] =
-      ap (λ (t : List Passing). ms ++ t) (tail_one (begun_with v c c) m (begun_here v c)) in
-      let passes : PassesMore c m mine more = record {
-        own = own_more ∙ ap (λ (xs : List Passing). xs ++ m ∷ []) (sym own_mine);
-        others = λ x other. ap
-            (λ (b : Bool). by_caller x (passings_on session d.log p) ++ tail b (next_passing session p d x))
-            (begun_elsewhere_too v c x other);
-      } in
-      let in_phase : AreInSteps 0 (begin_of p phases (v.terminal.phase + 1) c) ms =
-      subst (λ (xs : List Passing). AreInSteps 0 (begin_of p phases (v.terminal.phase + 1) c) xs) own_mine
-      (h.playing.up_to c) in
-      let own_steps : AreInSteps 0 (begin_of p phases (v.terminal.phase + 1) c) (more c) =
-      subst (λ (xs : List Passing). AreInSteps 0 (begin_of p phases (v.terminal.phase + 1) c) xs) (sym own_more)
-      (in_steps_more 0 (step_of d c) (begin_of p phases (v.terminal.phase + 1) c) ms m (omega arith) (omega arith) high
-      (in_steps_below 0 (begin_of p phases (v.terminal.phase + 1) c) (step_of d c) ms in_phase before)) in
-      let up_to : AreUpTo p phases v.terminal.phase more =
-      λ x. elim (cases_eq x c) [
-        | inl same ↦
-            subst (λ (y : ℕ). AreInSteps 0 (begin_of p phases (v.terminal.phase + 1) y) (more y)) (sym same) own_steps
-        | inr other ↦ subst (λ (xs : List Passing). AreInSteps 0 (begin_of p phases (v.terminal.phase + 1) x) xs)
-            (sym (passes.others x other)) (h.playing.up_to x)
-      ] in
-      any_next f.first phases f.scripts roles f.start mine more m v f.ticks stand place r call h.playing possible at rest
-      blocks limits passes refl (one_call (call_after session p d c) call has) good
-      (ap (λ (xs : List Passing). calls_at xs m.step) own_mine ∙ none_at ms (step_of d c) before) low up_to
+      next_begins HasAnyOrder f.first phases f.scripts roles f.start f.ticks (logged d) (next_passing session p d) v
+      stand place r
+      call h.playing possible at rest blocks limits refl (one_call (call_after session p d r.number) call has) good
+      (subst (λ (n : ℕ). AreLoggedBefore session d.log p r.number n) (step_is_next d [] r.number is_caller)
+      (h.logged_before r.number)) low high
 
   -- one that its caller has begun
-  made_begun : (b : Bool) (next : ℕ) → b ≡ true → (if b then next + 1 else next) ≡ next + 1
-  made_begun true next e = refl
-  made_begun false next e = absurd (false≢true e)
-
   pub call_continues : (v : PortValue) (d : DeskState) (stand : Stand) (place : ℕ) (r : Role) (call : PlainCall)
       → IsPlayingModems f roles v d stand []
       → slice_get roles place ≡ Some r
       → begun_at v r.number ≡ true
       → call_after session p d r.number ≡ Some (plain call)
-      → IsCallingIn HasAnyOrder f.first phases f.scripts roles f.start (with_call d v r.number) v f.ticks stand place call
+      → IsCallingIn HasAnyOrder f.first phases f.scripts roles f.start (with_call d v r.number) v f.ticks stand place
+      call
   call_continues v d stand place r call h at begun has =
-      let c = r.number in
-      let m = next_passing session p d c in
-      let mine = passings_with session p d (begun_at v) in
-      let more = with_call d v c in
-      let ms = by_caller c (passings_on session d.log p) in
-      let s = scene_on p h.playing.has.session in
-      let plays = (h.playing.each.each s h.playing.has.like h.playing.has.agrees).plays in
-      let next = (standing_at v c).next in
-      let own_mine : mine c ≡ ms ++ m ∷ [] = ap (λ (t : List Passing). ms ++ t) (tail_one (begun_at v c) m begun) in
-      let are : all_calls (mine c) ≡ all_calls ms ++ call ∷ [] =
-      ap all_calls own_mine
-      ∙ (all_more ms m
-      ∙ ap (λ (cs : List PlainCall). all_calls ms ++ cs) (one_call (call_after session p d c) call has)) in
-      let made : length (all_calls (mine c)) ≡ next + 1 =
-      h.playing.made c ∙ made_begun (standing_at v c).begun next begun in
-      let longer : length (all_calls (mine c)) ≡ length (all_calls ms) + 1 =
-      ap (λ (cs : List PlainCall). length cs) are ∙ length-append (all_calls ms) (call ∷ []) in
-      let behind : next ≡ length (all_calls ms) + 0 = omega (arith, made, longer) in
-      let known =
-      calls_all p v.terminal.phase phases mine h.playing.has.session c next h.playing.has.by h.playing.up_to
-      ∙ (ap (λ (cs : List PlainCall). slice_get cs next) are ∙ get_past (all_calls ms) (call ∷ []) next 0 behind) in
-      let same : (x : ℕ) → mine x ≡ more x =
-      λ x. elim (cases_eq x c) [
-        | inl own_one ↦ subst (λ (y : ℕ). mine y ≡ more y) (sym own_one)
-            (ap (λ (b : Bool). ms ++ tail b m) (begun ∙ sym (begun_here v c)))
-        | inr other ↦ ap
-            (λ (b : Bool). by_caller x (passings_on session d.log p) ++ tail b (next_passing session p d x))
-            (sym (begun_elsewhere_too v c x other))
-      ] in
-      calls_as mine more v stand place call same (record {
-        each = h.playing.each;
-        has = h.playing.has;
-        up_to = h.playing.up_to;
-        role = r;
-        at_place = at;
-        own = made;
-        others = λ x other. h.playing.made x;
-        next = next_of_call s (f.scripts s) roles v stand place r call plays at known
-            ((plays.callers.in_roles place r at).calling begun);
-      })
+      next_continues HasAnyOrder f.first phases f.scripts roles f.start f.ticks (logged d) (next_passing session p d) v
+      stand place r
+      call h.playing at begun (one_call (call_after session p d r.number) call has)
 
   -- what an attempt of a call comes to in the session that is played
   pub record Tries (old new : PortValue) (d : DeskState) (was now : Stand) (place : ℕ) (r : Role) (call : PlainCall)
@@ -462,12 +354,7 @@ module _ (f : Frame) (roles : List Role) where
       let others : (x : ℕ) → (x ≡ c → ⊥) → is_caller on.adds.entry.who x ≡ false =
       λ x other. other_is old new c call makes s on.adds x other in
       let same : (x : ℕ) → more x ≡ passings_with session p d (begun_at new) x =
-      λ x. ap (λ (b : Bool). by_caller x (passings_on session d.log p) ++ tail b (next_passing session p d x))
-      (elim (cases_eq x c) [
-        | inl own_one ↦
-            subst (λ (y : ℕ). begun_with old c y ≡ begun_at new y) (sym own_one) (begun_here old c ∙ sym begun.0)
-        | inr other ↦ begun_elsewhere_too old c x other ∙ sym (begun_same s old new on.adds x (others x other))
-      ]) in
+      begun_then s old new on.adds (logged d) (next_passing session p d) c begun.0 others in
       let known : call_at p t.calling.has.session c on.adds.entry.step ≡ Some call =
       ap (λ (n : ℕ). call_at p t.calling.has.session c n) (step_is old new c call makes s on.adds)
       ∙ on.plays.of_scene.known c (caller_at old.terminal c).next call makes.kept in
@@ -479,7 +366,8 @@ module _ (f : Frame) (roles : List Role) where
       w on.adds.entry.step on.adds.entry.part on.adds.entry.event) (who_is old new c call makes s on.adds)
       on.adds.allowed.1) known) in
       record {
-        playing = plays_as more (passings_with session p d (begun_at new)) new now same
+        playing = plays_as HasAnyOrder f.first phases f.scripts roles f.start f.ticks more
+            (passings_with session p d (begun_at new)) new now same
             (any_call_on f.first phases f.scripts roles f.start more old new f.ticks was now place call tried t.calling
             t.possible t.tries t.plays);
         desk = desk_entry f.first session old new d on.adds.entry by h.desk
@@ -585,7 +473,8 @@ module _ (f : Frame) (roles : List Role) where
       (λ played like agrees j later.
       (turn_each mine old d was next h.desk.at_entry h.playing is played like agrees j later).0 ∙ who)) in
       record {
-        playing = plays_as more (passings_with session p x (begun_at new)) new now
+        playing = plays_as HasAnyOrder f.first phases f.scripts roles f.start f.ticks more
+            (passings_with session p x (begun_at new)) new now
             (λ y. elim (cases_eq y c) [
               | inl own_one ↦ subst (λ (z : ℕ). more z ≡ passings_with session p x (begun_at new) z) (sym own_one)
                   here_too
@@ -597,7 +486,8 @@ module _ (f : Frame) (roles : List Role) where
             (log_stays p session d.log old new (on.adds.entry ∷ []) (state_at d h.desk.at_entry []) by h.desk.logged)
             entered.ordered notes;
         logged_before = λ y. elim (cases_eq y c) [
-          | inl own_one ↦ subst (λ (z : ℕ). AreLoggedBefore session x.log p z (step_next session p x [] z)) (sym own_one)
+          | inl own_one ↦ subst (λ (z : ℕ). AreLoggedBefore session x.log p z (step_next session p x [] z))
+              (sym own_one)
               (subst (λ (n : ℕ). All (λ m. m.step < n) (by_caller c (passings_on session x.log p)))
               (sym (step_is_next x [] c t.is_caller
               ∙ (ap (λ (ns : List ℕ). slice_index_or ns c 0) rose ∙ step_own d.next c (step_of d c + 1) known)))
@@ -621,30 +511,6 @@ module _ (f : Frame) (roles : List Role) where
       }
 
   -- ---- the hangup of a lost carrier
-
-  hangup_elsewhere : (d : DeskState) (v : PortValue) (h x : ℕ)
-      → (x ≡ carrier → ⊥)
-      → hangup_with session p d v h x ≡ passings_with session p d (begun_at v) x
-  hangup_elsewhere d v h x other =
-      ap (λ (t : List Passing). passings_with session p d (begun_at v) x ++ t)
-      (tail_none (x == carrier) (hangup_of session p d h) (ne_eqb x carrier other))
-      ∙ append-nil (passings_with session p d (begun_at v) x)
-
-  hangup_here : (d : DeskState) (v : PortValue) (h : ℕ)
-      → hangup_with session p d v h carrier
-      ≡ passings_with session p d (begun_at v) carrier ++ hangup_of session p d h ∷ []
-  hangup_here d v h =
-      ap (λ (t : List Passing). passings_with session p d (begun_at v) carrier ++ t)
-      (tail_one (carrier == carrier) (hangup_of session p d h) (eq-eqb carrier carrier refl))
-
-  -- `carrier` has begun no call
-  rests_at : (d : DeskState) (v : PortValue)
-      → begun_at v carrier ≡ false
-      → passings_with session p d (begun_at v) carrier ≡ by_caller carrier (passings_on session d.log p)
-  rests_at d v rest =
-      ap (λ (t : List Passing). by_caller carrier (passings_on session d.log p) ++ t)
-      (tail_none (begun_at v carrier) (next_passing session p d carrier) rest)
-      ∙ append-nil (by_caller carrier (passings_on session d.log p))
 
   taken : (b : Bool) (x y : ℕ) → b ≡ true → (if b then x else y) ≡ x
   taken true x y e = refl
@@ -672,40 +538,20 @@ module _ (f : Frame) (roles : List Role) where
   hangup_begins v d stand place r h playing possible at its blocks limits good low high =
       let m = hangup_of session p d h in
       let mine = passings_with session p d (begun_at v) in
-      let more = hangup_with session p d v h in
-      let ms = by_caller carrier (passings_on session d.log p) in
-      let rest = playing.carrier_rests in
-      let own_mine : mine carrier ≡ ms = rests_at d v rest in
-      let own_more : more carrier ≡ ms ++ m ∷ [] =
-      hangup_here d v h ∙ ap (λ (xs : List Passing). xs ++ m ∷ []) own_mine in
+      let rest : begun_at v r.number ≡ false = ap (begun_at v) its ∙ playing.carrier_rests in
       let before : AreLoggedBefore session d.log p carrier (d.items - 1) =
       subst (λ (n : ℕ). AreLoggedBefore session d.log p carrier n) (item_is_next d (h ∷ []))
       (playing.logged_before carrier) in
-      let passes : PassesMore carrier m mine more = record {
-        own = hangup_here d v h;
-        others = λ x other. hangup_elsewhere d v h x other;
-      } in
-      let in_phase : AreInSteps 0 (begin_of p phases (v.terminal.phase + 1) carrier) ms =
-      subst (λ (xs : List Passing). AreInSteps 0 (begin_of p phases (v.terminal.phase + 1) carrier) xs) own_mine
-      (playing.playing.up_to carrier) in
-      let own_steps : AreInSteps 0 (begin_of p phases (v.terminal.phase + 1) carrier) (more carrier) =
-      subst (λ (xs : List Passing). AreInSteps 0 (begin_of p phases (v.terminal.phase + 1) carrier) xs) (sym own_more)
-      (in_steps_more 0 (d.items - 1) (begin_of p phases (v.terminal.phase + 1) carrier) ms m (omega arith)
-      (omega arith) high
-      (in_steps_below 0 (begin_of p phases (v.terminal.phase + 1) carrier) (d.items - 1) ms in_phase before)) in
-      let up_to : AreUpTo p phases v.terminal.phase more =
-      λ x. elim (cases_eq x carrier) [
-        | inl same ↦
-            subst (λ (y : ℕ). AreInSteps 0 (begin_of p phases (v.terminal.phase + 1) y) (more y)) (sym same) own_steps
-        | inr other ↦ subst (λ (xs : List Passing). AreInSteps 0 (begin_of p phases (v.terminal.phase + 1) x) xs)
-            (sym (passes.others x other)) (playing.playing.up_to x)
-      ] in
-      any_next f.first phases f.scripts roles f.start mine more m v f.ticks stand place r (hangs_up h) playing.playing
-      possible at (subst (λ (c : ℕ). begun_at v c ≡ false) (sym its) rest) blocks limits
-      (subst (λ (c : ℕ). PassesMore c m mine more) (sym its) passes) (sym its) refl good
-      (subst (λ (c : ℕ). calls_at (mine c) m.step ≡ []) (sym its)
-      (ap (λ (xs : List Passing). calls_at xs m.step) own_mine ∙ none_at ms (d.items - 1) before))
-      (subst (λ (c : ℕ). begin_of p phases v.terminal.phase c ≤ d.items - 1) (sym its) low) up_to
+      more_is_next HasAnyOrder f.first phases f.scripts roles f.start f.ticks mine (hangup_with session p d v h) m v
+      stand place r
+      (hangs_up h) playing.playing possible at rest blocks limits
+      (subst (λ (c : ℕ). PassesMore c m mine (and_then mine carrier m)) (sym its) (passes_then mine carrier m))
+      (sym its) refl good
+      (subst (λ (xs : List Passing). All (λ x. x.step < m.step) xs)
+      (sym (rests_at (logged d) (next_passing session p d) v r.number rest))
+      (subst (λ (c : ℕ). AreLoggedBefore session d.log p c (d.items - 1)) (sym its) before))
+      (subst (λ (c : ℕ). begin_of p phases v.terminal.phase c ≤ d.items - 1) (sym its) low)
+      (subst (λ (c : ℕ). d.items - 1 < begin_of p phases (v.terminal.phase + 1) c) (sym its) high)
 
   pub hangup_goes_on : (old new : PortValue) (d x : DeskState) (was now : Stand) (place : ℕ) (r : Role) (h : ℕ)
       → (playing : IsPlayingModems f roles old d was (h ∷ []))
@@ -738,7 +584,8 @@ module _ (f : Frame) (roles : List Role) where
       let s = scene_on p calling.has.session in
       let in_it = any_in_call f.first phases f.scripts roles f.start more old f.ticks was place call calling possible in
       let on : PlaysOnIn HasAnyOrder s (f.scripts s) roles old new was now = (plays.each in_it).on in
-      let makes = subst (λ (c : ℕ). MakesCall old new c call) its (makes_as roles old new place r call at tried tries) in
+      let makes = subst (λ (c : ℕ). MakesCall old new c call) its (makes_as roles old new place r call at tried tries)
+      in
       let attempts = subst (λ (c : ℕ). Attempts old new c (caller_at old.terminal c).next call tried) its
       (attempts_as roles old new place r call at tried tries) in
       let by : ComesBy old new (on.adds.entry ∷ []) =
@@ -765,7 +612,7 @@ module _ (f : Frame) (roles : List Role) where
       let stays : (y : ℕ) → step_of x y ≡ step_of d y = λ y. ap (λ (ns : List ℕ). slice_index_or ns y 0) next_is in
       let elsewhere : (y : ℕ) → (y ≡ carrier → ⊥) → more y ≡ passings_with session p x (begun_at new) y =
       λ y other.
-      hangup_elsewhere d old h y other
+      (passes_then mine carrier m).others y other
       ∙ (ap (λ (b : Bool). by_caller y (passings_on session d.log p) ++ tail b (next_passing session p d y))
       (sym (begun_same s old new on.adds y (others y other)))
       ∙ ((λ i.
@@ -776,12 +623,14 @@ module _ (f : Frame) (roles : List Role) where
         calls = plain_call (modem_call_at p session y (sym (stays y) i));
       })))) in
       let here_too : more carrier ≡ passings_with session p x (begun_at new) carrier =
-      hangup_here d old h ∙ (ap (λ (xs : List Passing). xs ++ m ∷ []) (rests_at d old playing.carrier_rests)
-      ∙ (sym own_then ∙ sym (rests_at x new rest))) in
+      (passes_then mine carrier m).own ∙ (ap (λ (xs : List Passing). xs ++ m ∷ [])
+      (rests_at (logged d) (next_passing session p d) old carrier playing.carrier_rests)
+      ∙ (sym own_then ∙ sym (rests_at (logged x) (next_passing session p x) new carrier rest))) in
       let before : AreLoggedBefore session d.log p carrier (d.items - 1) =
       subst (λ (n : ℕ). AreLoggedBefore session d.log p carrier n) (item_is_next d (h ∷ []))
       (playing.logged_before carrier) in
-      let ordered = entry_more f.first session d.log old new (state_at d playing.desk.at_entry (h ∷ [])) on.adds.entry by
+      let ordered = entry_more f.first session d.log old new (state_at d playing.desk.at_entry (h ∷ [])) on.adds.entry
+      by
       playing.desk.logged playing.desk.ordered
       (taken_in_turn mine old new d was now playing.desk.at_entry (h ∷ []) (turn.Call place) on.adds.entry
       playing.playing by
@@ -792,7 +641,8 @@ module _ (f : Frame) (roles : List Role) where
       (plays_each mine old was played playing.playing like agrees) playing.desk.at_entry h j none
       ∙ ap (λ (c : ℕ). goes_on (Caller c)) (sym number))) in
       record {
-        playing = plays_as more (passings_with session p x (begun_at new)) new now
+        playing = plays_as HasAnyOrder f.first phases f.scripts roles f.start f.ticks more
+            (passings_with session p x (begun_at new)) new now
             (λ y. elim (cases_eq y carrier) [
               | inl own_one ↦ subst (λ (z : ℕ). more z ≡ passings_with session p x (begun_at new) z) (sym own_one)
                   here_too
@@ -804,7 +654,8 @@ module _ (f : Frame) (roles : List Role) where
             (log_stays p session d.log old new (on.adds.entry ∷ []) (state_at d playing.desk.at_entry (h ∷ [])) by
             playing.desk.logged) ordered notes;
         logged_before = λ y. elim (cases_eq y carrier) [
-          | inl own_one ↦ subst (λ (z : ℕ). AreLoggedBefore session x.log p z (step_next session p x [] z)) (sym own_one)
+          | inl own_one ↦ subst (λ (z : ℕ). AreLoggedBefore session x.log p z (step_next session p x [] z))
+              (sym own_one)
               (subst (λ (n : ℕ). All (λ m. m.step < n) (by_caller carrier (passings_on session x.log p)))
               (sym (item_is_next x [] ∙ none_due x.items d.items items_are))
               (subst (λ (xs : List Passing). All (λ m. m.step < d.items) xs) (sym own_then)

@@ -14,11 +14,11 @@ use Rattle.tty_terminal.specs.Calls.{outcome_of}
 use Rattle.tty_terminal.specs.Steps.{nothing_to_flush, is_wait}
 use Rattle.tty_terminal.proofs.WaitLaws.{run_waits}
 use Rattle.port_core.specs.Ports.{PortValue, call_in}
-use Rattle.one_thread.specs.Order.{must_wait, is_waiting, turn as whose_turn, turn_after, turn_after_event}
-use Rattle.one_thread.specs.Roles.{Scene}
-use Rattle.one_thread.specs.Stages.{HasAnyOrder}
-use Rattle.one_thread.specs.Turns.{role_numbers, turn_with, IsKept, PlaysIn}
-use Rattle.one_thread.specs.declared.roles.Role.{Role}
+use Rattle.one_order.specs.Order.{must_wait, is_waiting, turn as whose_turn, turn_after, turn_after_event}
+use Rattle.play_base.specs.Roles.{Scene}
+use Rattle.play_base.specs.Scenes.{HasAnyOrder}
+use Rattle.one_thread.specs.Turns.{role_numbers, turn_with, IsKeptCall, PlaysIn}
+use Rattle.play_base.specs.declared.roles.Role.{Role}
 use Rattle.one_thread.specs.declared.after_line.Stand.{Stand}
 use Rattle.one_thread.proofs.Entries.{place_is}
 use Rattle.passed_calls.specs.Journals.{Journal}
@@ -99,7 +99,7 @@ pub waits_kept : (s : Scene) (scripts : List Script) (roles : List Role) (v : Po
     → PlaysIn HasAnyOrder s scripts roles v stand
     → (c : ℕ)
     → is_waiting v.terminal c ≡ true
-    → IsKept v.kept c (caller_at v.terminal c).next
+    → IsKeptCall v.kept c (caller_at v.terminal c).next
 waits_kept s scripts roles v stand plays c waits =
     plays.callers.kept c
     (run_waits (call_at s.port s.session) (counts_on s.port s.session) _ v.journal v.terminal plays.run c waits)
@@ -112,7 +112,7 @@ goes_case true over x y held h = ap (λ (z : Bool). not over && not z) (h refl)
 
 pub goes_same : (v : PortValue) (j : Journal) (lines : Lines) (call : Option ModemCall) (c : ℕ)
     → IsLater v j
-    → (is_waiting v.terminal c ≡ true → IsKept v.kept c (caller_at v.terminal c).next)
+    → (is_waiting v.terminal c ≡ true → IsKeptCall v.kept c (caller_at v.terminal c).next)
     → goes_on_with lines j.calls v.terminal call c ≡ goes_on_with lines (call_in v.kept) v.terminal call c
 goes_same v j lines call c later kept =
     goes_case (is_waiting v.terminal c) (caller_at v.terminal c).over (must_wait j.calls v.terminal c)
@@ -124,7 +124,7 @@ goes_same v j lines call c later kept =
 
 rank_later : (p : ℕ) (session : ModemSession) (v : PortValue) (d : DeskState) (at : ℕ) (j : Journal)
     → IsLater v j
-    → ((c : ℕ) → is_waiting v.terminal c ≡ true → IsKept v.kept c (caller_at v.terminal c).next)
+    → ((c : ℕ) → is_waiting v.terminal c ≡ true → IsKeptCall v.kept c (caller_at v.terminal c).next)
     → turn_by_rank (port_with p session j) (state_at d at []) v.terminal
     ≡ turn_by_rank (port_now p session v) (state_at d 0 []) v.terminal
 rank_later p session v d at j later kept =
@@ -160,7 +160,8 @@ module _ (first : Scene) (session : ModemSession) (played : PlainSession) (scrip
       sym (third (nat_le (length played.phases) (here first played v).terminal.phase)
       (here first played v).terminal.line_over
       (goes_on (whose_turn first.port played (here first played v))) (goes_on Flusher) (ranked j at due)
-      (ap (λ (t : Terminal). nat_le (length played.phases) t.phase) terminal_is ∙ lt-leb (length played.phases) v.terminal.phase plays.within)
+      (ap (λ (t : Terminal). nat_le (length played.phases) t.phase) terminal_is
+      ∙ lt-leb (length played.phases) v.terminal.phase plays.within)
       (ap (λ (t : Terminal). t.line_over) terminal_is ∙ plays.line))
 
   pub turn_now : (next : Next) (at : ℕ) (j : Journal)
@@ -173,7 +174,8 @@ module _ (first : Scene) (session : ModemSession) (played : PlainSession) (scrip
       ∙ (ap (λ (t : Terminal). after_part (here first played v).before
       (turn_by_rank (port_with first.port session j) (state_at d at []) t)) terminal_is
       ∙ (ap (λ (t : Turn). after_part (here first played v).before t)
-      (rank_later first.port session v d at j later (waits_kept (scene_on first.port played) scripts roles v stand plays))
+      (rank_later first.port session v d at j later (waits_kept (scene_on first.port played) scripts roles v stand
+      plays))
       ∙ settled_turn (role_numbers roles) (here first played v).before stand.going
       (whose (role_numbers roles) next)
       (turn_by_rank (port_now first.port session v) (state_at d 0 []) v.terminal) plays.settled is.turn))

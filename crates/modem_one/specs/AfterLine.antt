@@ -10,10 +10,10 @@ use Rattle.tty_calls.specs.Plain.{hangs_up}
 use Rattle.tty_terminal.specs.Terminals.{caller_at, handle_at}
 use Rattle.port_core.specs.Ports.{PortValue, IsPort}
 use Rattle.one_thread.specs.Acts.{AddsEntry, PlaysEnd}
-use Rattle.one_thread.specs.Stages.{HasAnyOrder}
+use Rattle.play_base.specs.Scenes.{HasAnyOrder}
 use Rattle.one_thread.specs.Turns.{role_numbers, IsPossible}
 use Rattle.one_thread.specs.declared.after_line.Turn.TheVariants as turn
-use Rattle.one_thread.specs.declared.roles.Role.{Role}
+use Rattle.play_base.specs.declared.roles.Role.{Role}
 use Rattle.one_thread.specs.declared.after_line.Stand.{Stand}
 use Rattle.passed_calls.specs.Blocks.{names_on}
 use Rattle.passed_calls.specs.Within.{AreBlocksWithin}
@@ -157,10 +157,11 @@ pub record TakesCall (f : Frame) (roles : List Role) (place : ℕ) (old new : Po
   pub gone : HasGone taken.answered old new
 
 -- what a flush and a turn of the clock come to
-pub record TakesTurn (f : Frame) (roles : List Role) (old new : PortValue) (d : DeskState) (now : Stand) : Type 0 where
-  pub at : IsAtTurn f roles new d now
-  pub over : (c : ℕ) → WereOver old new c
-  pub gone : HasGone false old new
+pub record TakesNoCall (f : Frame) (roles : List Role) (old new : PortValue) (d : DeskState) (now : Stand) : Type 0
+  where
+    pub at : IsAtTurn f roles new d now
+    pub over : (c : ℕ) → WereOver old new c
+    pub gone : HasGone false old new
 
 -- the next item of the modem block of the phase, which is not over
 pub record IsItemOf (f : Frame) (v : PortValue) (d : DeskState) (step : PinStep) : Type 0 where
@@ -175,12 +176,13 @@ pub record IsItemOf (f : Frame) (v : PortValue) (d : DeskState) (step : PinStep)
       ≡ Some (record { phase = f.start.terminal.phase; step = step })
 
 -- what an item of the modem block comes to, with the hangup of a carrier that it may lose
-pub record TakesItem (f : Frame) (roles : List Role) (old new : PortValue) (d x : DeskState) (now : Stand) : Type 0 where
-  pub at : IsAtTurn f roles new x now
-  pub next : x.next ≡ d.next
-  pub items : x.items ≡ d.items + 1
-  pub over : (c : ℕ) → WereOver old new c
-  pub gone : length old.journal ≤ length new.journal
+pub record TakesItem (f : Frame) (roles : List Role) (old new : PortValue) (d x : DeskState) (now : Stand) : Type 0
+  where
+    pub at : IsAtTurn f roles new x now
+    pub next : x.next ≡ d.next
+    pub items : x.items ≡ d.items + 1
+    pub over : (c : ℕ) → WereOver old new c
+    pub gone : length old.journal ≤ length new.journal
 
 -- the hangup that is due, of `carrier`, who has the last role
 pub record IsHangingUp (f : Frame) (roles : List Role) (v : PortValue) (d : DeskState) (stand : Stand)

@@ -3,8 +3,8 @@ use Rattle.std.specs.Prelude.{◌≡◌, ◌≤◌, ℕ, List, [], ◌∷◌, le
 use Rattle.tty_calls.specs.Plain.{PlainEntry}
 use Rattle.tty_calls.specs.Sessions.{PlainSession}
 use Rattle.port_core.specs.Ports.{PortValue}
-use Rattle.one_thread.specs.Order.{first_place}
-use Rattle.one_thread.specs.Roles.{Scene}
+use Rattle.one_order.specs.Order.{first_place}
+use Rattle.play_base.specs.Roles.{Scene}
 use Rattle.order_laws.specs.Agreed.{Agrees, IsLike}
 use Rattle.passed_calls.specs.Journals.{Journal}
 use Rattle.passed_calls.specs.Logs.{logged_on}

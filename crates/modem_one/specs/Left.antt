@@ -1,8 +1,9 @@
 -- What is left of a phase: the calls of its callers, and the items of its modem block.
 use Rattle.std.specs.Prelude.{◌≡◌, ◌≤◌, ◌<◌, ◌+◌, ◌-◌, ◌≢◌, ℕ, List, false, Some, length, slice_get, slice_index_or}
+use Rattle.tty_base.specs.Sizes.{MOST_ENTRIES, MOST_STEPS}
 use Rattle.port_core.specs.Ports.{PortValue}
 use Rattle.one_thread.specs.Turns.{IsAbsent}
-use Rattle.one_thread.specs.declared.roles.Role.{Role}
+use Rattle.play_base.specs.declared.roles.Role.{Role}
 use Rattle.passed_laws.specs.Passed.{begin_of}
 use Rattle.passed_laws.specs.Left.{count_left}
 use Rattle.calls_left.specs.Remaining.{left_at, IsLeftTo}
@@ -28,7 +29,7 @@ pub record AreCallsLeft (p k : ℕ) (session : ModemSession) (roles : List Role)
 pub record AreItemsLeft (p k : ℕ) (session : ModemSession) (items : ℕ) (left : List PinStep) : Type 0 where
   pub from : begin_of p (block_phases session) k (carrier_on p session) ≤ items
   pub count : items + length left ≡ begin_of p (block_phases session) (k + 1) (carrier_on p session)
-  pub few : items + length left ≤ 65536
+  pub few : items + length left ≤ MOST_STEPS
   pub each : (i : ℕ) (step : PinStep)
       → slice_get left i ≡ Some step
       → slice_get (items_from p 0 session.phases) (items + i) ≡ Some (record { phase = k; step = step })
@@ -36,4 +37,4 @@ pub record AreItemsLeft (p k : ℕ) (session : ModemSession) (items : ℕ) (left
 
 -- how many calls and items are left, and how many entries with them the journal may still have
 abbrev pub turns_left : PortValue → List (List ModemCall) → List PinStep → ℕ
-turns_left v left items = (4194304 - length v.journal) + (count_left left + length items)
+turns_left v left items = (MOST_ENTRIES - length v.journal) + (count_left left + length items)

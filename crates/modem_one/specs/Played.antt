@@ -1,24 +1,24 @@
 -- What playing a session with modem lines comes to.
-use Rattle.std.specs.Prelude.{◌≡◌, ◌≢◌, ◌==◌, ℕ, List, [], ◌∷◌, ◌++◌, Bool, false}
-use Rattle.std.specs.Prelude.{Some, if◌then◌else◌, length, flat_map, slice_get, sum, option_map, unwrap_or}
-use Rattle.std.specs.List.{range_with_len}
+use Rattle.std.specs.Prelude.{◌≡◌, ◌≢◌, ◌==◌, ℕ, List, ◌++◌, Bool, false}
+use Rattle.std.specs.Prelude.{Some, length, slice_get}
 use Rattle.tty_calls.specs.declared.answers.PortEnd.{PortEnd}
 use Rattle.tty_calls.specs.declared.journals.PortRun.{PortRun}
 use Rattle.tty_calls.specs.Plain.{PlainEntry}
-use Rattle.tty_calls.specs.Sessions.{PlainSession, call_at, counts_on}
-use Rattle.tty_terminal.specs.Terminals.{opening}
-use Rattle.tty_terminal.specs.Standing.{Standing, standing_in, at_first}
-use Rattle.journal_check.specs.Legal.{flip_on}
-use Rattle.one_thread.specs.Order.{AllSeeAll}
-use Rattle.one_thread.specs.Played.{IsPlayedOn}
+use Rattle.tty_calls.specs.Sessions.{PlainSession}
+use Rattle.tty_terminal.specs.Standing.{Standing}
+use Rattle.one_order.specs.Order.{AllSeeAll}
+use Rattle.play_base.specs.Played.{IsPlayedOn}
 use Rattle.passed_calls.specs.Blocks.{names_on}
 use Rattle.passed_calls.specs.Logs.{logged_on}
-use Rattle.passed_calls.specs.Derived.{Passing, passed_phases}
+use Rattle.passed_calls.specs.Derived.{Passing}
 use Rattle.modem_text.specs.Events.{ModemEvent, pin_set, own, passed, carrier_lost, ModemLog, events_on}
 use Rattle.modem_text.specs.Sessions.{ModemSession, blocks_in}
 use Rattle.modem_steps.specs.Derived.{block_phases, calls_over, modem_call_at, plain_call, passings_on, derived}
 use Rattle.modem_steps.specs.Steps.{Port, ModemState, first_state, next_of, items_on, Leads, IsModemRun}
 use Rattle.modem_steps.specs.Order.{AreInModemTurn}
+use Rattle.passed_laws.specs.Sessions.{BlockSession, played_session, answer_count, begun_call, begun_calls, journal_in}
+use Rattle.passed_laws.specs.Sessions.{journal_on, AreNotFull}
+use Rattle.tty_base.specs.Sizes.{MOST_ENTRIES}
 
 -- ---- the session that was played, also where a journal is full
 
@@ -30,51 +30,41 @@ is_answer_to c (passed d step answer) = d == c
 is_answer_to c (carrier_lost h) = false
 
 abbrev pub answered_by : ℕ → List ModemEvent → ℕ
-answered_by c events = sum (flat_map (λ e. if is_answer_to c e then 1 ∷ [] else []) events)
+answered_by c events = answer_count is_answer_to c events
 
 -- the call of a caller that the port has begun and not answered
 abbrev pub begun_by : ModemSession → ModemLog → (p c : ℕ) → Standing → List Passing
 begun_by session log p c q =
-    if q.begun
-    then record {
-      caller = c;
-      step = answered_by c (events_on p log);
-      calls = plain_call (modem_call_at p session c (answered_by c (events_on p log)));
-    } ∷ []
-    else []
+    begun_call (λ x. answered_by x (events_on p log)) (λ x step. plain_call (modem_call_at p session x step)) c q
 
 abbrev pub begun_in : ModemSession → ModemLog → (p : ℕ) → List PlainEntry → List Passing
 begun_in session log p journal =
-    flat_map (λ c. begun_by session log p c (standing_in c journal at_first))
-    (range_with_len 0 (length (names_on p (blocks_in session))))
+    begun_calls (λ c. answered_by c (events_on p log)) (λ c step. plain_call (modem_call_at p session c step))
+    (length (names_on p (blocks_in session))) journal
 
--- the entries of a port
-abbrev pub journal_on : List PortRun → ℕ → List PlainEntry
-journal_on runs p = unwrap_or (option_map (λ run. run.journal.items) (slice_get runs p)) []
+-- all that a port was passed: what it has answered, and what it has begun and not answered
+abbrev pub all_passed : ModemSession → ModemLog → (p : ℕ) → List PlainEntry → List Passing
+all_passed session log p journal = passings_on session log p ++ begun_in session log p journal
 
--- with the calls that the ports had begun and not answered, behind each caller's others
-abbrev pub derived_with : ModemSession → ModemLog → List PortRun → PlainSession
-derived_with session log runs = record {
+-- the session by the blocks of its callers
+abbrev pub by_blocks : ModemSession → BlockSession
+by_blocks session = record {
   version = session.version;
   ports = session.ports;
   flips = session.flips;
-  phases = passed_phases (λ p. passings_on session log p ++ begun_in session log p (journal_on runs p))
-      (block_phases session);
+  phases = block_phases session;
 }
+
+-- with the calls that the ports had begun and not answered, behind each caller's others
+abbrev pub derived_with : ModemSession → ModemLog → List PortRun → PlainSession
+derived_with session log runs = played_session (by_blocks session) (λ p. all_passed session log p (journal_on runs p))
 
 -- ---- a port that was played
 
 -- a port of a session, in the session that was played
 abbrev pub port_in : ModemSession → PlainSession → ℕ → List PlainEntry → Port
-port_in session played p journal = record {
-  number = p;
-  session = session;
-  journal = record {
-    entries = journal;
-    calls = call_at p played;
-    opening = opening (sum (counts_on p played)) (flip_on p played);
-  };
-}
+port_in session played p journal =
+    record { number = p; session = session; journal = journal_in p played journal }
 
 -- its log is a run as far as it went, and each of its events and entries is in its turn
 pub record IsLogged (played : PlainSession) (port : Port) (log : ModemLog) : Type 0 where
@@ -94,12 +84,8 @@ pub record IsModemPlayedOn (p : ℕ) (session : ModemSession) (played : PlainSes
     (end : PortEnd) : Type 0 where
   pub played_on : IsPlayedOn p played run end
   pub logged : IsLogged played (port_in session played p run.journal.items) log
-  pub seen : length run.journal.items ≢ 4194304 → AllSeeAll p played run.journal.items run.line.overruns.items
-  pub whole : length run.journal.items ≢ 4194304 → IsLoggedWhole (port_in session played p run.journal.items) log
-
--- no journal is full
-abbrev pub AreNotFull : List PortRun → Type 0
-AreNotFull runs = (p : ℕ) (run : PortRun) → slice_get runs p ≡ Some run → length run.journal.items ≢ 4194304
+  pub seen : length run.journal.items ≢ MOST_ENTRIES → AllSeeAll p played run.journal.items run.line.overruns.items
+  pub whole : length run.journal.items ≢ MOST_ENTRIES → IsLoggedWhole (port_in session played p run.journal.items) log
 
 -- each port of a session with modem lines was played, and this is the session that they were played
 pub record AreModemsPlayed (session : ModemSession) (log : ModemLog) (runs : List PortRun) (ends : List PortEnd)

@@ -5,9 +5,9 @@ use Rattle.tty_calls.specs.declared.sessions.Script.{Script}
 use Rattle.tty_calls.specs.Plain.{hangs_up}
 use Rattle.tty_terminal.specs.Terminals.{Terminal}
 use Rattle.port_core.specs.Ports.{PortValue}
-use Rattle.one_thread.specs.Roles.{Scene}
-use Rattle.one_thread.specs.Stages.{HasAnyOrder}
-use Rattle.one_thread.specs.declared.roles.Role.{Role}
+use Rattle.play_base.specs.Roles.{Scene}
+use Rattle.play_base.specs.Scenes.{HasAnyOrder}
+use Rattle.play_base.specs.declared.roles.Role.{Role}
 use Rattle.one_thread.specs.declared.after_line.Stand.{Stand}
 use Rattle.passed_calls.specs.Derived.{Passing, by_caller}
 use Rattle.passed_calls.specs.Scripts.{plain}

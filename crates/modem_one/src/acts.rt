@@ -7,7 +7,7 @@ ghost use Rattle.passed_calls.specs.Scripts.{plain, further};
 ghost use Rattle.tty_calls.specs.Plain.{call_of};
 ghost use Rattle.modem_one.specs.declared.turns.Next.TheVariants as next;
 ghost use Rattle.modem_one.specs.AfterLine.{IsFrameWithin, IsAtTurn, IsTurnOf, IsNextOf, IsItemOf, IsHangingUp};
-ghost use Rattle.modem_one.specs.AfterLine.{TakesCall, TakesTurn, TakesItem, TakesHangup, StopsTurns};
+ghost use Rattle.modem_one.specs.AfterLine.{TakesCall, TakesNoCall, TakesItem, TakesHangup, StopsTurns};
 ghost use Rattle.modem_one.specs.Playing.{Frame};
 
 use crate::controls::has_live;
@@ -15,7 +15,8 @@ use crate::desks::Desk;
 use calls_left::NextCall;
 use live_handles::least_live;
 use modem_text::{OwnCall, PinItem};
-use one_thread::{Role, Stand, flush, pass, try_call};
+use one_thread::{Stand, flush, pass, try_call};
+use play_base::Role;
 use port_core::{Port, Tried};
 use tty_calls::{Call, Denied};
 
@@ -36,13 +37,13 @@ pub fn take_flush(
     ghost frame: { Frame }
     requires at { IsAtTurn frame roles.now port.old desk.now stand }
     requires next { IsTurnOf frame roles.now port.old desk.now stand next.Flush }
-    ensures ok { IfOk result (λ now. TakesTurn frame roles.now port.old port.new desk.now now) }
+    ensures ok { IfOk result (λ now. TakesNoCall frame roles.now port.old port.new desk.now now) }
     ensures err { IfErr result (λ d. StopsTurns d frame roles.now port.new desk.now) }
 {
-    let _ = desk;
-    let _before = port.journal();
+    let _ = desk; // for the contract alone
+    let _before = port.journal(); // known: the journal is a run
     let now = flush(port, roles, stand)?;
-    let _behind = port.journal();
+    let _behind = port.journal(); // known: the journal is a run
     Ok(now)
 }
 
@@ -56,13 +57,13 @@ pub fn take_pass(
     ghost frame: { Frame }
     requires at { IsAtTurn frame roles.now port.old desk.now stand }
     requires next { IsTurnOf frame roles.now port.old desk.now stand next.Pass }
-    ensures ok { IfOk result (λ now. TakesTurn frame roles.now port.old port.new desk.now now) }
+    ensures ok { IfOk result (λ now. TakesNoCall frame roles.now port.old port.new desk.now now) }
     ensures err { IfErr result (λ d. StopsTurns d frame roles.now port.new desk.now) }
 {
-    let _ = desk;
-    let _before = port.journal();
+    let _ = desk; // for the contract alone
+    let _before = port.journal(); // known: the journal is a run
     let now = pass(port, roles, stand)?;
-    let _behind = port.journal();
+    let _behind = port.journal(); // known: the journal is a run
     Ok(now)
 }
 
@@ -85,9 +86,9 @@ fn take_plain(
 {
     let caller = roles[place].number;
     let was_live = has_live(port);
-    let _before = port.journal();
+    let _before = port.journal(); // known: the journal is a run
     let (tried, now) = try_call(port, roles, place, call, stand)?;
-    let _behind = port.journal();
+    let _behind = port.journal(); // known: the journal is a run
     match tried {
         Tried::Done(answer) => {
             desk.pass(port, caller, call, answer, was_live)?;
@@ -123,7 +124,7 @@ fn take_own(
     ensures ok { IfOk result (λ taken. TakesCall frame roles.now place port.now port.now desk.old desk.new taken) }
     ensures err { IfErr result (λ d. StopsTurns d frame roles.now port.now desk.new) }
 {
-    let _journal = port.journal();
+    port.known();
     desk.control(port, roles[place].number, call)?;
     Ok(Taken {
         answered: true,
@@ -170,7 +171,7 @@ pub fn take_item(
     ensures ok { IfOk result (λ now. TakesItem frame roles.now port.old port.new desk.old desk.new now) }
     ensures err { IfErr result (λ d. StopsTurns d frame roles.now port.new desk.new) }
 {
-    let _journal = port.journal();
+    port.known();
     let lost = desk.set_pin(port, item.pin, item.up)?;
     if !lost {
         return Ok(stand);
@@ -195,9 +196,9 @@ fn hang_up(
     ensures err { IfErr result (λ d. StopsTurns d frame roles.now port.new desk.new) }
 {
     let place = roles.len() - 1;
-    let _before = port.journal();
+    let _before = port.journal(); // known: the journal is a run
     let (_tried, now) = try_call(port, roles, place, &Call::Vhangup { h }, stand)?;
-    let _behind = port.journal();
+    let _behind = port.journal(); // known: the journal is a run
     desk.hang_up(port, h)?;
     Ok(now)
 }

@@ -1,6 +1,6 @@
 //! What comes after the line of a phase: flushes, callers, the modem block and the clock, up to the end of the phase.
 
-ghost use Rattle.std.specs.Prelude.{◌≡◌, ◌≢◌, ◌<◌, Some, [], IfOk, IfErr, OnErr, OnOk, if◌then◌else◌, slice_set, drop};
+ghost use Rattle.std.specs.Prelude.{◌≡◌, ◌≢◌, ◌<◌, Some, [], IfOk, IfErr, OnErr, OnOk, if◌then◌else◌, slice_set};
 ghost use Rattle.calls_left.specs.Remaining.{after_next, left_at};
 ghost use Rattle.modem_one.specs.declared.turns.Next.TheVariants as turn;
 ghost use Rattle.modem_one.specs.AfterLine.{IsBetween, IsTurnOf, BeginsTurns, EndsTurns, StopsTurns};
@@ -14,7 +14,8 @@ use crate::turns::{Next, next_of};
 use calls_left::Remaining;
 use flip_buffer::FlipIn;
 use modem_text::OwnCall;
-use one_thread::{Role, Stand, end_calls, end_phase};
+use one_thread::{Stand, end_calls, end_phase};
+use play_base::Role;
 use port_core::Port;
 use tty_calls::Denied;
 
@@ -36,12 +37,12 @@ fn take_last(
     ensures less { OnOk result (turns_left port.new calls.now items.now < turns_left port.old calls.now items.now) }
     ensures err { IfErr result (λ d. StopsTurns d frame roles.now port.new desk.now) }
 {
-    let _ = desk;
-    let _ = calls;
-    let _ = items;
-    let _before = port.journal();
+    let _ = desk; // for the contract alone
+    let _ = calls; // for the contract alone
+    let _ = items; // for the contract alone
+    let _before = port.journal(); // known: the journal is a run
     let now = end_calls(port, roles, place, stand)?;
-    let _behind = port.journal();
+    let _behind = port.journal(); // known: the journal is a run
     Ok(now)
 }
 
@@ -98,8 +99,8 @@ fn tell(
     ensures less { OnOk result (turns_left port.now calls.new items.now < turns_left port.now calls.old items.now) }
     ensures err { IfErr result (λ d. StopsTurns d frame roles.now port.now desk.new) }
 {
-    let _ = items;
-    let _journal = port.journal();
+    let _ = items; // for the contract alone
+    port.known();
     desk.tell(port, roles[place].number)?;
     calls.pass(place);
     Ok(stand)
@@ -121,7 +122,7 @@ fn do_item(
     ensures less { OnOk result (turns_left port.new calls.now items.new < turns_left port.old calls.now items.old) }
     ensures err { IfErr result (λ d. StopsTurns d frame roles.now port.new desk.new) }
 {
-    let _ = calls;
+    let _ = calls; // for the contract alone
     match items.next() {
         Some(item) => {
             let now = take_item(port, desk, roles, item, stand)?;
@@ -184,8 +185,8 @@ pub fn play_after_line(
         stand = play_turn(port, desk, roles, calls, items, next, stand)?;
         next = next_of(port, desk, roles, calls, items, stand.going);
     }
-    let _last = port.journal();
+    let _last = port.journal(); // known: the journal is a run
     let run = end_phase(port, putter, roles, stand)?;
-    let _behind = port.journal();
+    let _behind = port.journal(); // known: the journal is a run
     Ok(run)
 }

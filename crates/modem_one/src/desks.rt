@@ -1,14 +1,12 @@
 //! The desk of a port: its modem lines, and what is noted of them.
 
-ghost use Rattle.std.specs.Prelude.{◌≡◌, ◌<◌, ◌-◌, ◌^◌, [], ◌∷◌, ◌++◌, length, map, not, if◌then◌else◌, ℕ};
+ghost use Rattle.std.specs.Prelude.{◌≡◌, ◌<◌, ◌-◌, ◌^◌, [], ◌∷◌, ◌++◌, length, map, ℕ};
 ghost use Rattle.std.specs.Prelude.{IfErr, IfOk, OnErr, OnOk, Some};
 ghost use Rattle.modem_lines.specs.Lines.{first_lines, loses_carrier};
 ghost use Rattle.modem_text.specs.Events.{event_of, logged_of};
 ghost use Rattle.tty_calls.specs.Plain.{answer_of, call_of};
-ghost use Rattle.tty_terminal.specs.Terminals.{live_count};
 ghost use Rattle.passed_calls.specs.Scripts.{plain};
 ghost use Rattle.modem_steps.specs.Steps.{waits_for_carrier};
-ghost use Rattle.modem_one.specs.Controls.{has_live, is_done, lines_settled};
 ghost use Rattle.modem_one.specs.Desk.{AreOn, noted, step_of, answered_own, controlled, told_idle};
 ghost use Rattle.modem_one.specs.Desk.{answered_passed, pinned, hung_up_through};
 ghost use Rattle.tty_calls.specs.declared.answers.Denied.TheVariants as denied;

@@ -1,6 +1,6 @@
 //! The items of a port's modem block in a phase.
 
-ghost use Rattle.std.specs.Prelude.{◌≡◌, drop, map, option_map, slice_get, IfSome};
+ghost use Rattle.std.specs.Prelude.{◌≡◌, drop, map, option_map, slice_get};
 ghost use Rattle.modem_text.specs.Sessions.{step_of};
 
 use modem_text::PinItem;

@@ -1,5 +1,5 @@
-//! The player of one port with modem lines on one thread: the desk with its lines and its log, and what comes behind the
-//! line of a phase, up to the end of the phase.
+//! The player of one port with modem lines on one thread: the desk with its lines and its log, and what comes behind
+//! the line of a phase, up to the end of the phase.
 #![tactic(auto)]
 
 mod acts;

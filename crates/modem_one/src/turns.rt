@@ -1,8 +1,7 @@
 //! Whose turn it is behind the line of a phase.
 
-ghost use Rattle.std.specs.Prelude.{◌≡◌, ◌<◌, ◌+◌, [], Some, None, MatchOption, length, slice_get, slice_index, sum, take};
+ghost use Rattle.std.specs.Prelude.{◌≡◌, ◌<◌, [], Some, None, length, slice_get, slice_index, sum, take};
 ghost use Rattle.std.specs.Prelude.{ℕ};
-ghost use Rattle.tty_calls.specs.declared.journals.Who.TheVariants.{Caller};
 ghost use Rattle.port_core.specs.Ports.{call_in};
 ghost use Rattle.calls_left.specs.Remaining.{left_at};
 ghost use Rattle.one_thread.specs.Turns.{role_numbers};
@@ -17,7 +16,7 @@ use crate::desks::Desk;
 use crate::items::Items;
 use calls_left::{NextCall, Remaining};
 use modem_text::OwnCall;
-use one_thread::Role;
+use play_base::Role;
 use port_core::Port;
 
 /// What is done next: a piece of a flush run, a call of the caller at a place, an item of the modem block, a tick or

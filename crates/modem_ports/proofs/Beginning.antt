@@ -14,12 +14,12 @@ use Rattle.tty_calls.specs.declared.sessions.Phase.{Phase}
 use Rattle.tty_calls.specs.Limits.{IsWithinLimits, IsCallWithin}
 use Rattle.tty_calls.specs.Sessions.{PlainScript, PlainPhase, PlainSession, phase_of, session_of}
 use Rattle.tty_calls.specs.Sessions.{script_of, scripts_on, line_on, ticks_on}
-use Rattle.journal_check.specs.Legal.{phase_at}
-use Rattle.one_thread.specs.Roles.{Scene, scene_of, names_in, role_in}
-use Rattle.one_thread.specs.Casting.{AreNumbered, HaveSameCallers, IsNumbered}
-use Rattle.one_thread.specs.Casting.{own_scripts, scripts_in, scripts_at, cast_of}
-use Rattle.one_thread.specs.declared.roles.Role.{Role}
-use Rattle.one_thread.proofs.RoleLemmas.{phase_numbered, few_names_in}
+use Rattle.legal_runs.specs.Legal.{phase_at}
+use Rattle.play_base.specs.Roles.{Scene, scene_of, names_in, role_in}
+use Rattle.play_base.specs.Casting.{AreNumbered, HaveSameCallers, IsNumbered, own_scripts, scripts_in, scripts_at}
+use Rattle.play_base.specs.Casting.{cast_of}
+use Rattle.play_base.specs.declared.roles.Role.{Role}
+use Rattle.play_base.proofs.RoleLemmas.{phase_numbered, few_names_in}
 use Rattle.passed_calls.specs.Blocks.{Block}
 use Rattle.passed_calls.specs.Derived.{Passing, Passed, BlockPhase, blocks_of, passed_phases_after}
 use Rattle.passed_calls.specs.Scripts.{CallerScript, mixed_scripts, phases_with}
@@ -30,7 +30,8 @@ use Rattle.calls_left.specs.Remaining.{calls_of_port}
 use Rattle.modem_text.specs.declared.sessions.ModemPart.{ModemPart}
 use Rattle.modem_text.specs.declared.sessions.ModemSession.{ModemSession as KeptSession}
 use Rattle.modem_text.specs.declared.sessions.PinItem.{PinItem}
-use Rattle.modem_text.specs.Sessions.{ModemCall, ModemPhase, ModemSession, PinStep, PlainPart, modem_session_of, no_part}
+use Rattle.modem_text.specs.Sessions.{ModemCall, ModemPhase, ModemSession, PinStep, PlainPart, modem_session_of}
+use Rattle.modem_text.specs.Sessions.{no_part}
 use Rattle.modem_text.specs.Sessions.{part_of, phase_with, pins_on, step_of}
 use Rattle.modem_text.specs.Within.{IsModemSessionWithin, block_phase_of}
 use Rattle.modem_steps.specs.Derived.{block_phases}
@@ -49,7 +50,11 @@ abbrev scene_in : ℕ → PlainSession → Scene
 scene_in p s = record { port = p; session = s }
 
 none_within : ArePassedWithin none_passed
-none_within = record { calls = λ q. All-nil (λ (m : Passing). All IsCallWithin m.calls); single = λ q c step. omega arith }
+none_within = record {
+  calls = λ q. All-nil (λ (m : Passing). All IsCallWithin m.calls);
+  single = λ q c step. omega
+      arith;
+}
 
 pub nothing_within : (session : ModemSession) → IsModemSessionWithin session → IsWithinLimits (nothing_passed session)
 nothing_within session h =
@@ -200,7 +205,8 @@ begins_there : (p k run : ℕ) (kept : KeptSession) (scripts : List Script) (at 
       callers = scripts;
     })
     roles then_at k run left items line ticks
-begins_there p k run kept scripts at then_at steps roles left items line ticks within port lt callers h next cast left_is
+begins_there p k run kept scripts at then_at steps roles left items line ticks within port lt callers h next cast
+    left_is
     items_are line_is good ticks_is then_h same_port same_desk =
     let session = modem_session_of kept in
     let base = nothing_passed session in

@@ -10,15 +10,15 @@ use Rattle.std.proofs.lemmas.List.Elements.{All-head, All-tail, All-nil, All-con
 use Rattle.tty_calls.specs.declared.sessions.Script.{Script}
 use Rattle.tty_calls.specs.Sessions.{PlainScript, PlainSession, script_of, scripts_on, scripts_over as plain_over}
 use Rattle.tty_calls.specs.Sessions.{number_in}
-use Rattle.journal_check.specs.Legal.{phase_at}
-use Rattle.journal_check.proofs.NameLemmas.{same_name}
-use Rattle.journal_check.proofs.TurnLemmas.{at_number}
-use Rattle.one_thread.specs.Casting.{IsNumbered, number_or, own_scripts, role_for, cast_of}
-use Rattle.one_thread.specs.Roles.{PlainRole, Scene, names_in, role_in}
+use Rattle.legal_runs.specs.Legal.{phase_at}
+use Rattle.legal_runs.proofs.NameLemmas.{same_name}
+use Rattle.legal_runs.proofs.ScriptLemmas.{at_number}
+use Rattle.play_base.specs.Casting.{IsNumbered, number_or, own_scripts, role_for, cast_of}
+use Rattle.play_base.specs.Roles.{PlainRole, Scene, names_in, role_in}
 use Rattle.one_thread.specs.Turns.{role_numbers}
-use Rattle.one_thread.specs.declared.roles.Role.{Role}
-use Rattle.one_thread.proofs.NameLemmas.{eq_name, has_name, HaveOwnNames, number_at, few_names}
-use Rattle.one_thread.proofs.RoleLemmas.{phase_numbered, sum_counts}
+use Rattle.play_base.specs.declared.roles.Role.{Role}
+use Rattle.play_base.proofs.NameLemmas.{eq_name, has_name, HaveOwnNames, number_at, few_names}
+use Rattle.play_base.proofs.RoleLemmas.{phase_numbered, sum_counts}
 use Rattle.order_laws.specs.Growth.{names_in as names_in_phase}
 use Rattle.order_laws.proofs.Shapes.{counts_same}
 use Rattle.passed_calls.specs.Blocks.{Block, bare, blocks_on, names_on, number_on}
@@ -32,14 +32,16 @@ use Rattle.passed_laws.proofs.Shares.{on_port, over, map_append, none_named, Own
 use Rattle.passed_ports.specs.Ports.{IsSceneOf}
 use Rattle.passed_ports.proofs.Leaving.{HasShares, AreSharesLeft, shares_left, get_map, some_at, some_is}
 use Rattle.passed_ports.proofs.Leaving.{names_one, names_plain, own_blocks, at_of}
-use Rattle.modem_text.specs.Sessions.{ModemCall, ModemPhase, ModemSession, carrier_name, carrier_block, blocks_in, pins_on}
+use Rattle.modem_text.specs.Sessions.{ModemCall, ModemPhase, ModemSession, carrier_name, carrier_block, blocks_in}
+use Rattle.modem_text.specs.Sessions.{pins_on}
 use Rattle.modem_text.specs.Within.{block_phase_of, IsModemSessionWithin}
 use Rattle.modem_steps.specs.Derived.{block_phases, carrier_on, modem_call_at}
 use Rattle.modem_one.specs.Left.{AreCallsLeft, AreItemsLeft}
-use Rattle.modem_one.proofs.Shares.{blocks_there, callers_counted, callers_of, carrier_counts, names_same, over_are, NoneIsCarrier}
+use Rattle.modem_one.proofs.Shares.{blocks_there, callers_counted, callers_of, carrier_counts, names_same, over_are}
+use Rattle.modem_one.proofs.Shares.{NoneIsCarrier}
+use Rattle.modem_one.specs.Played.{by_blocks}
 use Rattle.modem_ports.specs.declared.phases.ModemStation.{ModemStation}
 use Rattle.modem_derived.specs.Blocks.{nothing_passed}
-use Rattle.modem_ports.specs.Blocks.{by_blocks}
 use Rattle.modem_ports.specs.Between.{IsBetween, numbers_in}
 use Rattle.modem_ports.proofs.Pins.{items_left}
 
@@ -111,7 +113,8 @@ none_passed q = []
 abbrev scene_in : ℕ → PlainSession → Scene
 scene_in p base = record { port = p; session = base }
 
-pub nothing_by : (p : ℕ) (session : ModemSession) → IsPassedBy p (block_phases session) (λ c. []) (nothing_passed session)
+pub nothing_by : (p : ℕ) (session : ModemSession) → IsPassedBy p (block_phases session) (λ c. [])
+    (nothing_passed session)
 nothing_by p session = record { passed = none_passed; are = refl; by = λ c. refl }
 
 pub scene_of_session : (p : ℕ) (session : ModemSession)
@@ -372,7 +375,8 @@ shares_of p k session phase scripts run at h lt callers b =
       counted = λ name none. callers_counted p session name (other_name carrier_name name
           (λ same. none 0 (ap (λ (x : List ℕ). Some x) same)));
       same_names =
-          ap (λ (ss : List PlainScript). names_plain (own_scripts p ss)) callers ∙ names_of_phase p k session phase h lt;
+          ap (λ (ss : List PlainScript). names_plain (own_scripts p ss)) callers
+          ∙ names_of_phase p k session phase h lt;
       numbered = subst (λ (ss : List PlainScript). All (IsNumbered names) (own_scripts p ss)) (sym callers)
           (phase_numbered first k lt);
       names_are = names_stay none_passed phases p;
@@ -418,7 +422,8 @@ calls_left p k session phase scripts steps roles run at h lt callers b cast =
     let left = map (λ (s : One). s.calls) own in
     let shares : AreSharesLeft p k phases (numbered_call names (over p (callers_of session.phases))) roles at.desk.next
     left 1 =
-    shares_left p k phases (callers_of session.phases) scripts names (carrier_name ∷ []) steps phase.callers at.desk.next
+    shares_left p k phases (callers_of session.phases) scripts names (carrier_name ∷ []) steps phase.callers
+    at.desk.next
     roles (shares_of p k session phase scripts run at h lt callers b) cast in
     let its : AreSharesLeft p k phases (modem_call_at p session) roles at.desk.next left 1 =
     subst (λ (f : ℕ → ℕ → Option ModemCall). AreSharesLeft p k phases f roles at.desk.next left 1)

@@ -2,10 +2,10 @@
 use Rattle.std.proofs.Common.{◌≡◌, ◌<◌, ℕ, length, sym, ◌∙◌, subst}
 use Rattle.tty_calls.specs.declared.sessions.Session.{Session}
 use Rattle.tty_calls.specs.Sessions.{PlainSession, session_of}
-use Rattle.one_thread.specs.Lines.{IsAtPhaseIn}
-use Rattle.one_thread.specs.Roles.{Scene, scene_of}
-use Rattle.one_thread.specs.Stages.{HasAnyOrder}
-use Rattle.one_thread.proofs.PortLemmas.{phases_over}
+use Rattle.play_base.specs.Beginning.{IsAtPhaseIn}
+use Rattle.play_base.specs.Roles.{Scene, scene_of}
+use Rattle.play_base.specs.Scenes.{HasAnyOrder}
+use Rattle.play_base.proofs.PortLemmas.{phases_over}
 use Rattle.order_laws.proofs.Shapes.{phases_same}
 use Rattle.passed_laws.specs.Witness.{scene_on}
 use Rattle.passed_ports.specs.Ports.{IsSceneOf}
@@ -13,10 +13,10 @@ use Rattle.modem_text.specs.Sessions.{ModemSession}
 use Rattle.modem_text.specs.Within.{IsModemSessionWithin}
 use Rattle.modem_ports.specs.declared.phases.ModemStation.{ModemStation}
 use Rattle.modem_derived.specs.Blocks.{nothing_passed}
-use Rattle.modem_ports.specs.Blocks.{by_blocks}
 use Rattle.modem_ports.specs.Ports.{IsModemsEnd}
 use Rattle.modem_ports.specs.Between.{IsBetween}
 use Rattle.modem_ports.proofs.Casting.{scene_of_session}
+use Rattle.modem_one.specs.Played.{by_blocks}
 
 pub scene_of_base : (p : ℕ) (base : Session) (session : ModemSession)
     → session_of base ≡ nothing_passed session

@@ -1,4 +1,5 @@
--- The line of a phase at the desk of a port: its entries are in their turn, which is that of the session that was played.
+-- The line of a phase at the desk of a port: its entries are in their turn, which is that of the session that was
+-- played.
 use Rattle.std.proofs.Common.{◌≡◌, ℕ, ◌+◌, Bool, true, false, not, ◌||◌, List, [], ◌∷◌, ◌++◌, Option, length}
 use Rattle.std.proofs.Common.{if◌then◌else◌, refl, sym, ap, ◌∙◌, subst, arith}
 use Rattle.std.specs.Prelude.{nat_le}
@@ -10,10 +11,10 @@ use Rattle.tty_terminal.specs.Terminals.{Terminal}
 use Rattle.tty_terminal.specs.Marks.{Marks, marks_of, marks_after, marks_in}
 use Rattle.tty_terminal.specs.Runs.{Leads}
 use Rattle.tty_terminal.proofs.MarkLaws.{step_marks, leads_marks}
-use Rattle.journal_check.specs.Legal.{line_ends, line_ends_in, session_events, session_events_in}
+use Rattle.legal_runs.specs.Legal.{line_ends, line_ends_in, session_events, session_events_in}
 use Rattle.port_core.specs.Ports.{PortValue}
-use Rattle.one_thread.specs.Order.{Place, first_place, next_place, place_after, turn, AreInTurn}
-use Rattle.one_thread.specs.Roles.{Scene}
+use Rattle.one_order.specs.Order.{Place, first_place, next_place, place_after, turn, AreInTurn}
+use Rattle.play_base.specs.Roles.{Scene}
 use Rattle.order_laws.specs.Agreed.{Agrees, IsLike}
 use Rattle.order_laws.proofs.Agreeing.{before_all}
 use Rattle.passed_calls.specs.Logs.{logged_on}

@@ -16,17 +16,19 @@ use Rattle.tty_calls.specs.Sessions.{PlainSession, line_on, call_at, counts_on}
 use Rattle.tty_terminal.specs.declared.callers.CallerState.{CallerState}
 use Rattle.tty_terminal.specs.Terminals.{Terminal, has_begun}
 use Rattle.tty_terminal.specs.Runs.{Leads}
-use Rattle.journal_check.specs.Legal.{phase_at}
+use Rattle.legal_runs.specs.Legal.{phase_at}
 use Rattle.port_core.specs.Ports.{PortValue, IsPort}
 use Rattle.one_thread.specs.Acts.{BeginsLine, PlaysItsLine}
-use Rattle.one_thread.specs.Order.{AreInTurn, IsPieceOf, Place}
-use Rattle.one_thread.specs.Roles.{Scene, names_in}
-use Rattle.one_thread.specs.Lines.{IsAtPhaseIn, PlaysLineIn}
-use Rattle.one_thread.specs.Stages.{HasAnyOrder, EndsAfterLineIn, place_of}
+use Rattle.one_order.specs.Order.{AreInTurn, IsPieceOf, Place}
+use Rattle.play_base.specs.Roles.{Scene, names_in}
+use Rattle.play_base.specs.Beginning.{IsAtPhaseIn}
+use Rattle.one_thread.specs.Lines.{PlaysLineIn}
+use Rattle.play_base.specs.Scenes.{HasAnyOrder, place_of}
+use Rattle.one_thread.specs.Stages.{EndsAfterLineIn}
 use Rattle.one_thread.specs.declared.after_line.Stand.{Stand}
-use Rattle.one_thread.specs.declared.roles.Role.{Role}
+use Rattle.play_base.specs.declared.roles.Role.{Role}
 use Rattle.one_thread.proofs.Entries.{place_is}
-use Rattle.one_thread.proofs.PortLemmas.{port_of_scene, run_of_scene}
+use Rattle.play_base.proofs.PortLemmas.{port_of_scene, run_of_scene}
 use Rattle.one_thread.proofs.StationLemmas.{at_next_phase}
 use Rattle.order_laws.specs.Agreed.{Agrees, IsLike, AreRolesOfEach}
 use Rattle.order_laws.proofs.Agreeing.{before_all}
@@ -217,7 +219,8 @@ turns_begin s roles at run left items steps ticks mid putter line later h plays 
     let scripts : (j : ℕ) → Scene → List Script = scripts_in p s.callers in
     let idle : (c : ℕ) → begun_at mid c ≡ false = λ c.
     ap (λ (q : CallerState). has_begun q) (on.after_line.callers c) in
-    let plays_first : IsPlayingIn HasAnyOrder first phases (scripts k) roles mid (passed_by s.session p d) mid ticks stand =
+    let plays_first : IsPlayingIn HasAnyOrder first phases (scripts k) roles mid (passed_by s.session p d) mid ticks
+    stand =
     any_begins_playing first phases (scripts k) roles (passed_by s.session p d) steps old mid at.station.putter putter
     at.station.line line run later ticks b.each b.has b.before plays h.phase h.steps_are h.ticks_are port
     (roles_of_each s roles at run left items steps ticks mid putter line later h plays) in
@@ -280,7 +283,8 @@ pub phase_over : (s : Setting) (roles : List Role) (at : ModemStation) (run : �
     → BeginsPhase s roles at at.station.port.terminal.phase run left items steps ticks
     → PlaysItsLine steps at.station.port mid at.station.putter putter at.station.line line run later
     → EndsTurns (frame_of s mid ticks) roles new putter now y after_it
-    → IsBeforeModems s.first s.session new now line after_it y × (new.terminal.phase ≡ at.station.port.terminal.phase + 1)
+    → IsBeforeModems s.first s.session new now line after_it y
+    × (new.terminal.phase ≡ at.station.port.terminal.phase + 1)
 phase_over s roles at run left items steps ticks mid putter line later new now y after_it h plays ends =
     let first = s.first in
     let p = first.port in
@@ -295,7 +299,8 @@ phase_over s roles at run left items steps ticks mid putter line later new now y
     let on = plays.each begins in
     let playing = ends.at.playing in
     let mine = passings_with session p y (begun_at v) in
-    let both = any_end_on first phases f.scripts roles mid mine v new putter now ticks ends.stand after_it playing.playing
+    let both = any_end_on first phases f.scripts roles mid mine v new putter now ticks ends.stand after_it
+    playing.playing
     (can_end f roles v y ends.stand ends.at ends.is_end) ends.ends ends.adds in
     let z = scene_on p both.1.session in
     let ended : EndsAfterLineIn HasAnyOrder z mid new putter now after_it = both.0.each z both.1.like both.1.agrees in
@@ -320,16 +325,19 @@ phase_over s roles at run left items steps ticks mid putter line later new now y
     ∙ idle_new c in
     let same : (c : ℕ) → mine c ≡ passed_by session p y c = only_logged session p y (begun_at v) idle in
     let agrees_mid = before_all z mid new (ended.part ++ ended.last ∷ []) ended.added both.0.grows both.1.agrees in
-    let agrees_old = before_all z old mid (on.flushes ++ on.last ∷ []) on.added (same_calls old mid on.kept) agrees_mid in
+    let agrees_old = before_all z old mid (on.flushes ++ on.last ∷ []) on.added (same_calls old mid on.kept) agrees_mid
+    in
     let its = line_in s roles at run left items steps ticks z h both.1.like agrees_old in
     let at_end : PlaysLineIn HasAnyOrder z k old mid putter at.station.line line later = plays.each its in
     let phase : new.terminal.phase ≡ k + 1 =
-    (at_next_phase z k old mid new at.station.putter putter now at.station.line line run later after_it its.begins at_end
+    (at_next_phase z k old mid new at.station.putter putter now at.station.line line run later after_it its.begins
+    at_end
     ended).phase in
     let next_is : mid.terminal.phase + 1 ≡ new.terminal.phase = ap (λ (j : ℕ). j + 1) on.phase ∙ sym phase in
     let phase_v : v.terminal.phase ≡ k = (playing.playing.each.each z both.1.like agrees_v).phase ∙ at_end.phase in (
       record {
-        each = any_phase_each first steps old mid new at.station.putter putter now at.station.line line run later after_it
+        each = any_phase_each first steps old mid new at.station.putter putter now at.station.line line run later
+            after_it
             b.each begins plays h.phase h.steps_are both.0;
         has = subst (λ (m : ℕ → List Passing). HasPassed first phases m new) (λ i. λ c. same c i) both.1;
         before = λ c. subst (λ (j : ℕ). AreInSteps 0 (begin_of p phases j c) (passed_by session p y c)) (sym phase)

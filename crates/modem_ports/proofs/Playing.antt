@@ -8,6 +8,7 @@ use Rattle.std.proofs.lemmas.List.{length-map}
 use Rattle.tty_base.specs.declared.characters.Flagged.{Flagged}
 use Rattle.word_ring.specs.Ends.{PutterState}
 use Rattle.uart_line.specs.LineState.{LineState}
+use Rattle.tty_base.specs.Sizes.{MOST_ENTRIES}
 use Rattle.tty_calls.specs.declared.answers.PortEnd.{PortEnd}
 use Rattle.tty_calls.specs.declared.journals.PortRun.{PortRun}
 use Rattle.tty_calls.specs.Plain.{PlainEntry}
@@ -15,34 +16,32 @@ use Rattle.tty_calls.specs.Sessions.{PlainSession}
 use Rattle.tty_terminal.specs.Terminals.{Terminal, has_begun}
 use Rattle.tty_terminal.specs.declared.callers.CallerState.{CallerState}
 use Rattle.port_core.specs.Ports.{PortValue}
-use Rattle.one_thread.specs.Roles.{Scene}
-use Rattle.one_thread.specs.Lines.{IsAtPhaseIn}
-use Rattle.one_thread.specs.Phases.{EndsRun, HavePlayedInOrder, IsPortOf, IsFullRun, IsAtEnd}
-use Rattle.one_thread.specs.Leaving.{EndsJournal}
+use Rattle.play_base.specs.Roles.{Scene}
+use Rattle.play_base.specs.Beginning.{IsAtPhaseIn}
+use Rattle.play_base.specs.Phases.{EndsRun, HavePlayedInOrder, IsPortOf, IsFullRun, IsAtEnd}
+use Rattle.play_base.specs.Leaving.{EndsJournal}
 use Rattle.tty_base.specs.declared.lines.Overrun.{Overrun}
-use Rattle.one_thread.specs.Order.{AllSeeAll, AreInTurn, Place, turn}
-use Rattle.one_thread.specs.Played.{IsPlayedOn}
-use Rattle.one_thread.specs.Stages.{HasAnyOrder, IsOfSceneIn, place_of}
-use Rattle.one_thread.proofs.PortLemmas.{port_of_scene, at_end_of}
+use Rattle.one_order.specs.Order.{AllSeeAll, AreInTurn, Place, turn}
+use Rattle.play_base.specs.Played.{IsPlayedOn}
+use Rattle.play_base.specs.Scenes.{HasAnyOrder, IsOfSceneIn, place_of}
+use Rattle.play_base.proofs.PortLemmas.{port_of_scene, at_end_of}
 use Rattle.order_laws.proofs.Shapes.{phases_same}
 use Rattle.passed_calls.specs.Blocks.{names_on}
 use Rattle.passed_calls.specs.Derived.{Passing, by_caller}
 use Rattle.passed_calls.specs.Logs.{logged_on}
 use Rattle.passed_laws.specs.Witness.{scene_on}
+use Rattle.passed_laws.specs.Sessions.{journal_in}
 use Rattle.passed_ports.specs.Ports.{IsSceneOf}
-use Rattle.passed_ports.proofs.Played.{like_played, agrees_played, idle_then, later_then, journal_in, is_later, phases_many}
+use Rattle.passed_ports.proofs.Played.{like_played, agrees_played, idle_then, later_then, is_later, phases_many}
 use Rattle.passed_ports.proofs.Started.{within_of}
-use Rattle.modem_text.specs.Events.{ModemLog}
+use Rattle.modem_text.specs.Events.{ModemLog, events_on}
 use Rattle.modem_text.specs.Sessions.{ModemSession, blocks_in}
 use Rattle.modem_steps.specs.Derived.{block_phases, passings_on}
 use Rattle.modem_steps.specs.Steps.{Port}
 use Rattle.modem_steps.specs.Order.{AreEntriesInTurn, goes_on}
 use Rattle.modem_one.specs.Desk.{DeskState, step_of, state_at}
-use Rattle.modem_one.specs.Played.{port_in, IsLogged, IsLoggedWhole}
-use Rattle.modem_ports.specs.Blocks.{by_blocks}
-use Rattle.modem_derived.specs.Blocks.{all_passed}
+use Rattle.modem_one.specs.Played.{port_in, IsLogged, IsLoggedWhole, by_blocks, all_passed}
 use Rattle.modem_ports.specs.Ports.{passed_by, IsPortPlayed, IsModemsEnd, IsModemsFull}
-use Rattle.modem_ports.proofs.Counted.{nothing_begun}
 use Rattle.modem_ports.proofs.Lines.{place_in}
 use Rattle.modem_ports.proofs.Logged.{logged_in}
 use Rattle.modem_ports.proofs.Phased.{place_first}
@@ -56,6 +55,7 @@ use Rattle.passed_ports.proofs.Started.{zeros_at}
 use Rattle.modem_text.specs.Within.{block_phase_of}
 use Rattle.modem_one.specs.Later.{port_with}
 use Rattle.modem_steps.specs.Steps.{first_state}
+use Rattle.modem_derived.proofs.ByEvents.{none_begun}
 
 -- ---- the hangup in its turn
 
@@ -140,7 +140,7 @@ hung_up_played first session v putter line run d left end scene ends journal pla
     let has = before.has in
     let ms = all_passed session d.log p left.journal.items in
     let here = (before.each.each (scene_on p has.session) has.like has.agrees).0 in
-    let none = nothing_begun session d.log p left.journal.items (λ c.
+    let none = none_begun session p (events_on p d.log) left.journal.items (λ c.
     idle_then v left.journal.items c ends.port journal (ap (λ (q : CallerState). has_begun q) (here.callers c))) in
     let same : (c : ℕ) → by_caller c ms ≡ passed_by session p d c =
     λ c.
@@ -203,7 +203,8 @@ full_played first session v putter line d left end scene full journal plays =
     λ c.
     ap (λ (es : List PlainEntry). by_caller c (all_passed session d.log p es)) journal ∙ full.passed c in
     let here = full.full has.session has.like has.by has.agrees in
-    let long : length left.journal.items ≡ 4194304 = ap (λ (es : List PlainEntry). length es) journal ∙ here.1.full in
+    let long : length left.journal.items ≡ MOST_ENTRIES = ap (λ (es : List PlainEntry). length es) journal
+    ∙ here.1.full in
     record {
       within = within_of first (block_phases session) full.mine v ms has same;
       none_begun = λ not_full. absurd (not_full long);

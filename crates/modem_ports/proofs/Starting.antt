@@ -7,10 +7,10 @@ use Rattle.tty_calls.specs.declared.sessions.Session.{Session}
 use Rattle.tty_calls.specs.Plain.{PlainEntry}
 use Rattle.tty_calls.specs.Sessions.{PlainSession, session_of}
 use Rattle.port_core.specs.Ports.{PortValue, IsPort}
-use Rattle.one_thread.specs.Order.{first_place}
-use Rattle.one_thread.specs.Phases.{IsUpTo, IsBeforePhase}
-use Rattle.one_thread.specs.Roles.{Scene, scene_of, names_in}
-use Rattle.one_thread.specs.declared.phases.Station.{Station}
+use Rattle.one_order.specs.Order.{first_place}
+use Rattle.play_base.specs.Phases.{IsUpTo, IsBeforePhase}
+use Rattle.play_base.specs.Roles.{Scene, scene_of, names_in}
+use Rattle.play_base.specs.declared.stations.Station.{Station}
 use Rattle.order_laws.proofs.InEach.{any_before_each}
 use Rattle.order_laws.proofs.Opening.{opened_each}
 use Rattle.passed_calls.specs.Blocks.{names_on}
@@ -60,7 +60,8 @@ desk_opened first session v n many empty = record {
   ordered = record {
     turns = λ played like agrees j later. record {
       entries_are = subst (λ (es : List PlainEntry).
-          AreEntriesInTurn played (port_with first.port session j) [] (first_place first.port played) 0 es) (sym empty) tt;
+          AreEntriesInTurn played (port_with first.port session j) [] (first_place first.port played) 0 es) (sym empty)
+          tt;
       events_are = tt;
     };
   };
@@ -115,10 +116,15 @@ pub opened_between : (p : ℕ) (kept : KeptSession) (base : Session) (names : Li
     → IsBetween (scene_of p base) (modem_session_of kept) 0 0 (record { names = names; station = station; desk = desk })
 opened_between p kept base names station desk within is named before port desk_is =
     let session = modem_session_of kept in
-    subst (λ (d : DeskState). IsBetween (scene_of p base) session 0 0 (record { names = names; station = station; desk = d }))
+    subst (λ (d : DeskState). IsBetween (scene_of p base) session 0 0
+    (record { names = names; station = station; desk = d }))
     (sym desk_is)
     (subst (λ (s : PlainSession).
-    IsBetween (scene_in p s) session 0 0 (record { names = names; station = station; desk = desk_for p (length names) }))
+    IsBetween (scene_in p s) session 0 0 (record {
+      names = names;
+      station = station;
+      desk = desk_for p (length names);
+    }))
     (sym is)
     (opened_there p session names station within (named ∙ ap (λ (s : PlainSession). names_in (scene_in p s)) is)
     (subst (λ (s : PlainSession). IsBeforePhase (scene_in p s) 0 station 0) is before) port))

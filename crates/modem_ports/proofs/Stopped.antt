@@ -11,13 +11,13 @@ use Rattle.tty_calls.specs.Plain.{PlainEntry}
 use Rattle.tty_calls.specs.Sessions.{PlainSession, ticks_on, call_at, counts_on}
 use Rattle.tty_terminal.specs.Terminals.{Terminal}
 use Rattle.tty_terminal.specs.Runs.{Leads}
-use Rattle.journal_check.specs.Legal.{phase_at}
+use Rattle.legal_runs.specs.Legal.{phase_at}
 use Rattle.port_core.specs.Ports.{PortValue, IsPort}
 use Rattle.one_thread.specs.Acts.{PlaysItsLine, StopsItsLine, PlayingIn}
-use Rattle.one_thread.specs.Order.{AreInTurn}
+use Rattle.one_order.specs.Order.{AreInTurn}
 use Rattle.one_thread.specs.Lines.{PlaysLineIn, StopsInLineIn}
-use Rattle.one_thread.specs.Stages.{HasAnyOrder, place_of}
-use Rattle.one_thread.specs.declared.roles.Role.{Role}
+use Rattle.play_base.specs.Scenes.{HasAnyOrder, place_of}
+use Rattle.play_base.specs.declared.roles.Role.{Role}
 use Rattle.order_laws.specs.Agreed.{Agrees, IsLike}
 use Rattle.order_laws.proofs.Agreeing.{before_all}
 use Rattle.order_laws.proofs.InEach.{same_calls}
@@ -29,6 +29,7 @@ use Rattle.passed_laws.specs.Passed.{begin_of}
 use Rattle.passed_laws.specs.Witness.{scene_on}
 use Rattle.passed_laws.specs.Begun.{begun_at}
 use Rattle.modem_text.specs.Sessions.{ModemCall, PinStep, blocks_in}
+use Rattle.modem_text.specs.Events.{events_on}
 use Rattle.modem_steps.specs.Derived.{block_phases, passings_on}
 use Rattle.modem_one.specs.Desk.{DeskState}
 use Rattle.modem_one.specs.Playing.{passings_with, next_passing}
@@ -51,10 +52,11 @@ use Rattle.passed_ports.proofs.Alike.{agrees_alike}
 use Rattle.modem_one.specs.Played.{port_in}
 use Rattle.modem_one.proofs.Shares.{names_same}
 use Rattle.modem_ports.proofs.Lines.{entries_in_line, place_in}
-use Rattle.modem_ports.proofs.Counted.{mine_is, nothing_begun}
+use Rattle.modem_ports.proofs.Counted.{mine_is}
 use Rattle.modem_ports.proofs.Logged.{logged_in}
 use Rattle.modem_ports.proofs.Resting.{begun_is, begun_stays, none_in_line}
 use Rattle.modem_ports.proofs.Phased.{idle_first, place_first, line_begins, line_in, same_behind, frame_of}
+use Rattle.modem_derived.proofs.ByEvents.{none_begun}
 
 abbrev Begins : (s : Setting) (roles : List Role) (at : ModemStation) (run : ℕ) (left : List (List ModemCall))
     (items : List PinStep) (steps : List LineStep) (ticks : ℕ)
@@ -128,7 +130,8 @@ line_full s roles at run left items steps ticks v putter line h stops open_still
     let mine = passed_by session p d in
     let begins = line_begins s roles at run left items steps ticks h in
     let stopped = stops.each begins in
-    let own = in_its_turn s roles at run left items steps ticks v putter line has.session stopped.part h stops open_still
+    let own = in_its_turn s roles at run left items steps ticks v putter line has.session stopped.part h stops
+    open_still
     has.like has.agrees stopped.added in
     let idle : (c : ℕ) → (standing_in c v.journal at_first).begun ≡ false = λ c.
     begun_is v c port
@@ -140,7 +143,8 @@ line_full s roles at run left items steps ticks v putter line h stops open_still
     → IsPassedBy p phases mine played
     → Agrees (scene_on p played) old =
     λ played like by.
-    agrees_alike p phases mine has.session played old (between p first.session has.session played has.like.shape like.shape)
+    agrees_alike p phases mine has.session played old (between p first.session has.session played has.like.shape
+    like.shape)
     has.by by has.agrees in
     record {
       port = port;
@@ -149,7 +153,7 @@ line_full s roles at run left items steps ticks v putter line h stops open_still
       mine = mine;
       passed = λ c.
           ap (λ (ms : List Passing). by_caller c (passings_on session d.log p ++ ms))
-          (nothing_begun session d.log p v.journal idle)
+          (none_begun session p (events_on p d.log) v.journal idle)
           ∙ ap (by_caller c) (append-nil (passings_on session d.log p));
       has = record {
         session = has.session;
@@ -218,7 +222,8 @@ turns_full s roles at run left items steps ticks mid putter line later v now y h
     let has = playing.has in
     let mine : ℕ → List Passing = passings_with session p y (begun_at v) in
     let on = plays.each (line_begins s roles at run left items steps ticks h) in
-    let own : PlayingIn HasAnyOrder (scene_on p has.session) (f.scripts (scene_on p has.session)) roles mid v ticks fills.stand =
+    let own : PlayingIn HasAnyOrder (scene_on p has.session) (f.scripts (scene_on p has.session)) roles mid v ticks
+    fills.stand =
     playing.each.each (scene_on p has.session) has.like has.agrees in
     let known : (c : ℕ) → begun_at v c ≡ true → c < length (names_on p (blocks_in session)) = λ c begun.
     subst (λ (ns : List (List ℕ)). c < length ns) (sym (names_same p session))
@@ -250,7 +255,8 @@ turns_full s roles at run left items steps ticks mid putter line later v now y h
           ∙ at_phase (ticks_on p) first.session z.session mid.terminal.phase like.ticks) in (
             its.plays.of_scene,
             full_behind_line z k old mid v putter now at.station.line line later at.station.line.report.overruns.items
-                (f.scripts z) roles ticks fills.stand begins.within (b.each.each z like agrees_old).1.played here its ticks_same
+                (f.scripts z) roles ticks fills.stand begins.within (b.each.each z like agrees_old).1.played here its
+                ticks_same
                 (fills.full ∙ its.plays.of_scene.limit) same,
           );
       logged = λ played like by agrees.

@@ -8,20 +8,22 @@ use Rattle.word_ring.specs.Ends.{PutterState}
 use Rattle.uart_line.specs.LineState.{LineState}
 use Rattle.uart_line.specs.Received.{script, received_list}
 use Rattle.uart_line.specs.Offered.{HandsOver}
+use Rattle.tty_base.specs.Sizes.{MOST_ENTRIES}
 use Rattle.tty_calls.specs.Plain.{PlainEvent, PlainEntry}
 use Rattle.tty_calls.specs.Sessions.{line_on, ticks_on, call_at, counts_on}
-use Rattle.journal_check.specs.Legal.{phase_at, script_on, script_of_first, session_events, session_events_in}
-use Rattle.journal_check.specs.Short.{after_phases}
+use Rattle.legal_runs.specs.Legal.{phase_at, script_on, script_of_first, session_events, session_events_in}
+use Rattle.legal_runs.specs.Short.{after_phases}
 use Rattle.port_core.specs.Ports.{PortValue}
-use Rattle.one_thread.specs.Roles.{Scene}
-use Rattle.one_thread.specs.Lines.{HasPut, PlaysLineIn, StopsInLineIn}
-use Rattle.one_thread.specs.Phases.{HasFewTicks, HavePlayed, IsFullRun}
+use Rattle.play_base.specs.Roles.{Scene}
+use Rattle.play_base.specs.Putting.{HasPut}
+use Rattle.one_thread.specs.Lines.{PlaysLineIn, StopsInLineIn}
+use Rattle.play_base.specs.Phases.{HasFewTicks, HavePlayed, IsFullRun}
 use Rattle.one_thread.specs.Acts.{PlayingIn}
-use Rattle.one_thread.proofs.JournalLemmas.{stops_within, leads_both}
-use Rattle.one_thread.proofs.PhaseLemmas.{few_ticks}
-use Rattle.one_thread.proofs.ReceivedLemmas.{script_parts}
-use Rattle.one_thread.proofs.StationLemmas.{full_in_phase}
-use Rattle.one_thread.specs.declared.roles.Role.{Role}
+use Rattle.play_base.proofs.JournalLemmas.{stops_within, leads_both}
+use Rattle.play_base.proofs.PhaseLemmas.{few_ticks}
+use Rattle.play_base.proofs.ReceivedLemmas.{script_parts}
+use Rattle.play_base.proofs.FullRuns.{full_in_phase}
+use Rattle.play_base.specs.declared.roles.Role.{Role}
 use Rattle.one_thread.specs.declared.after_line.Stand.{Stand}
 use Rattle.tty_calls.specs.declared.sessions.Script.{Script}
 
@@ -98,7 +100,7 @@ pub full_behind_line : {HasOrder : Scene → List PlainEntry → Type 0} (s : Sc
     → PlaysLineIn HasOrder s k old mid now line played run
     → PlayingIn HasOrder s scripts roles mid v ticks stand
     → ticks ≡ ticks_on s.port (phase_at s.session mid.terminal.phase)
-    → length v.journal ≡ 4194304
+    → length v.journal ≡ MOST_ENTRIES
     → left ≡ now
     → IsFullRun s v left played
 full_behind_line s k old mid v now left line played run overruns scripts roles ticks stand within so_far plays its
@@ -114,7 +116,8 @@ full_behind_line s k old mid v now left line played run overruns scripts roles t
     full_in_phase s k old v left played overruns (front ++ its.part) within so_far full
     (its.added
     ∙ (ap (λ (x : List PlainEntry). x ++ its.part) plays.added ∙ append_assoc old.journal front its.part))
-    (leads_both (call_at s.port s.session) (counts_on s.port s.session) old.terminal front mid.terminal its.part v.terminal
+    (leads_both (call_at s.port s.session) (counts_on s.port s.session) old.terminal front mid.terminal its.part
+    v.terminal
     plays.leads its.leads)
     (inside_both front its.part front_inside its.inside)
     (omega (arith, tick, was, ticks_are, bound))

@@ -8,8 +8,8 @@ use Rattle.std.proofs.lemmas.List.{get_or-set_other}
 use Rattle.tty_calls.specs.Plain.{PlainAnswer}
 use Rattle.tty_calls.specs.Sessions.{number_in}
 use Rattle.tty_terminal.specs.Terminals.{Terminal}
-use Rattle.journal_check.proofs.TurnLemmas.{at_number}
-use Rattle.one_thread.proofs.NameLemmas.{eq_name}
+use Rattle.legal_runs.proofs.ScriptLemmas.{at_number}
+use Rattle.play_base.proofs.NameLemmas.{eq_name}
 use Rattle.passed_calls.specs.Blocks.{names_on}
 use Rattle.passed_calls.specs.Derived.{BlockPhase, blocks_of}
 use Rattle.passed_calls.specs.Journals.{terminal_at}
@@ -22,8 +22,9 @@ use Rattle.modem_text.specs.Events.{ModemEvent, ModemLog, pin_set, own, passed, 
 use Rattle.modem_text.specs.Sessions.{ModemCall, ModemPhase, ModemSession, carrier_name, blocks_in}
 use Rattle.modem_text.specs.Within.{IsModemSessionWithin, block_phase_of}
 use Rattle.modem_steps.specs.Derived.{block_phases, call_in_phase, calls_over, carrier_on, scripts_over}
-use Rattle.modem_steps.specs.Steps.{ModemState, Port, IsAllowed, IsPlain, OwnAnswer, Leads, after_event, next_call, next_of, items_from}
-use Rattle.modem_one.proofs.Shares.{NoneIsCarrier, begin_counts, calls_front, carrier_counts, count_of, items_of_port}
+use Rattle.modem_steps.specs.Steps.{ModemState, Port, IsAllowed, IsForPort, OwnAnswer, Leads, after_event, next_call}
+use Rattle.modem_steps.specs.Steps.{next_of, items_from}
+use Rattle.modem_one.proofs.Shares.{NoneIsCarrier, begin_counts, calls_front, carrier_counts, count_of, pins_by_phase}
 use Rattle.modem_derived.specs.Blocks.{nothing_passed}
 use Rattle.modem_ports.proofs.Pins.{items_many}
 use Rattle.modem_ports.proofs.Beginning.{nothing_many}
@@ -66,8 +67,8 @@ none_in_phase p k c step session none =
     (no_front (calls_over p session (take (k + 1) session.phases) c)
     (calls_over p session (drop (k + 1) session.phases) c) (sym (calls_front p session (k + 1) c) ∙ none))
 
-not_plain : (o : Option ModemCall) → o ≡ None → IsPlain o → ⊥
-not_plain o none is = subst IsPlain none is
+not_plain : (o : Option ModemCall) → o ≡ None → IsForPort o → ⊥
+not_plain o none is = subst IsForPort none is
 
 not_own : (port : Port) (s : ModemState) (t : Terminal) (c : ℕ) (o : Option ModemCall) (answer : PlainAnswer)
     → o ≡ None
@@ -106,7 +107,7 @@ next_stays port s u (l ∷ log) c none leads =
     by_event (passed d step answer) is = elim (cases_eq c d) [
       | inl same ↦
           absurd (not_plain (next_call port s t c) nothing
-          (subst (λ (x : ℕ). IsPlain (next_call port s t x)) (sym same) is.for_port))
+          (subst (λ (x : ℕ). IsForPort (next_call port s t x)) (sym same) is.for_port))
       | inr other ↦ get_or-set_other s.next d c (next_of s d + 1) 0 other
     ]
     by_event (carrier_lost h) is = refl
@@ -225,6 +226,6 @@ all_items p k session items last port within is =
           is
           ∙ (carrier_counts p session k port (none_is_carrier p session port within)
           (carrier_there p 0 session phase.0 at (omega (arith, same, some)))
-          ∙ (ap (λ (ps : List ModemPhase). count_of (items_of_port p ps)) (whole_take session.phases k last)
+          ∙ (ap (λ (ps : List ModemPhase). count_of (pins_by_phase p ps)) (whole_take session.phases k last)
           ∙ sym (items_many p 0 session.phases))))
     ]

@@ -1,5 +1,6 @@
 -- A port with modem lines between two phases, and what a phase is played of.
-use Rattle.std.specs.Prelude.{◌≡◌, ◌<◌, ◌++◌, ◌∷◌, [], ℕ, false, IsTrue, List, All, length, map, slice_index_or, filter, ◌==◌}
+use Rattle.std.specs.Prelude.{◌≡◌, ◌<◌, ◌++◌, ◌∷◌, [], ℕ, false, IsTrue, List, All, length, map, slice_index_or, filter}
+use Rattle.std.specs.Prelude.{◌==◌}
 use Rattle.tty_base.specs.Lines.{is_step}
 use Rattle.tty_base.specs.declared.lines.LineStep.{LineStep}
 use Rattle.tty_calls.specs.declared.answers.Denied.{Denied}
@@ -7,12 +8,12 @@ use Rattle.tty_calls.specs.declared.answers.Denied.TheVariants.{NoMemory, Full}
 use Rattle.tty_calls.specs.declared.sessions.Script.{Script}
 use Rattle.tty_calls.specs.declared.sessions.Session.{Session}
 use Rattle.tty_calls.specs.Sessions.{script_of, scripts_on, line_on, ticks_on}
-use Rattle.journal_check.specs.Legal.{phase_at}
+use Rattle.legal_runs.specs.Legal.{phase_at}
 use Rattle.port_core.specs.Ports.{PortValue, IsPort}
-use Rattle.one_thread.specs.Roles.{Scene, scene_of, names_in, role_in}
-use Rattle.one_thread.specs.Casting.{HaveSameCallers, own_scripts, scripts_at, cast_of}
+use Rattle.play_base.specs.Roles.{Scene, scene_of, names_in, role_in}
+use Rattle.play_base.specs.Casting.{HaveSameCallers, own_scripts, scripts_at, cast_of}
 use Rattle.one_thread.specs.Turns.{role_numbers}
-use Rattle.one_thread.specs.declared.roles.Role.{Role}
+use Rattle.play_base.specs.declared.roles.Role.{Role}
 use Rattle.passed_calls.specs.Blocks.{number_on}
 use Rattle.passed_laws.specs.Filled.{AreNextSteps}
 use Rattle.passed_ports.specs.Ports.{IsSceneOf}
@@ -21,8 +22,8 @@ use Rattle.modem_text.specs.declared.sessions.ModemSession.{ModemSession as Kept
 use Rattle.modem_text.specs.Within.{IsModemSessionWithin}
 use Rattle.modem_steps.specs.Derived.{carrier_on}
 use Rattle.modem_one.specs.Left.{AreCallsLeft, AreItemsLeft}
+use Rattle.modem_one.specs.Played.{by_blocks}
 use Rattle.modem_ports.specs.declared.phases.ModemStation.{ModemStation}
-use Rattle.modem_ports.specs.Blocks.{by_blocks}
 use Rattle.modem_ports.specs.Ports.{IsBeforeModems, IsModemsFull}
 
 -- at the beginning of phase k, with room for the next step of each caller

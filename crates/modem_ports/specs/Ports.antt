@@ -1,5 +1,5 @@
 -- A port with modem lines that was played, whatever session its callers' calls are found to make.
-use Rattle.std.specs.Prelude.{◌≡◌, ◌≢◌, ◌<◌, ℕ, List, [], All, Some, length, slice_get}
+use Rattle.std.specs.Prelude.{◌≡◌, ◌≢◌, ◌<◌, ℕ, List, [], length}
 use Rattle.tty_base.specs.declared.characters.Flagged.{Flagged}
 use Rattle.word_ring.specs.Ends.{PutterState}
 use Rattle.uart_line.specs.LineState.{LineState}
@@ -7,16 +7,15 @@ use Rattle.tty_calls.specs.declared.answers.PortEnd.{PortEnd}
 use Rattle.tty_calls.specs.declared.journals.PortRun.{PortRun}
 use Rattle.tty_calls.specs.Sessions.{PlainSession}
 use Rattle.port_core.specs.Ports.{PortValue, IsPort}
-use Rattle.one_thread.specs.Phases.{IsFullRun}
-use Rattle.one_thread.specs.Roles.{Scene}
-use Rattle.one_thread.specs.Stages.{HasAnyOrder, IsOfSceneIn}
+use Rattle.play_base.specs.Phases.{IsFullRun}
+use Rattle.play_base.specs.Roles.{Scene}
+use Rattle.play_base.specs.Scenes.{HasAnyOrder, IsOfSceneIn}
 use Rattle.order_laws.specs.Agreed.{Agrees, IsLike, IsBeforeEachIn}
 use Rattle.passed_calls.specs.Blocks.{names_on}
 use Rattle.passed_calls.specs.Derived.{Passing, by_caller}
-use Rattle.passed_calls.specs.Logs.{logged_on}
 use Rattle.passed_laws.specs.Passed.{IsPassedBy, AreBefore, begin_of}
 use Rattle.passed_laws.specs.Witness.{scene_on, HasPassed}
-use Rattle.passed_ports.specs.Ports.{ArePassingsWithin, IsPlayedWith}
+use Rattle.passed_ports.specs.Ports.{IsPlayedSo, ArePlayedFirst}
 use Rattle.modem_text.specs.Events.{ModemLog}
 use Rattle.modem_text.specs.Sessions.{ModemSession, blocks_in}
 use Rattle.modem_text.specs.Within.{IsModemSessionWithin}
@@ -24,30 +23,20 @@ use Rattle.modem_steps.specs.Derived.{block_phases, carrier_on, passings_on}
 use Rattle.modem_one.specs.Desk.{DeskState, step_of}
 use Rattle.modem_one.specs.Later.{IsDeskAt}
 use Rattle.modem_one.specs.Playing.{step_next, AreLoggedBefore}
-use Rattle.modem_one.specs.Played.{begun_in, port_in, IsLogged, IsModemPlayedOn}
-use Rattle.modem_derived.specs.Blocks.{all_passed}
-use Rattle.modem_ports.specs.Blocks.{by_blocks}
+use Rattle.modem_one.specs.Played.{begun_in, port_in, IsLogged, IsModemPlayedOn, by_blocks, all_passed}
 
 -- ---- what was played
 
 -- a port with its own log, its run and its end
-pub record IsPortPlayed (p : ℕ) (session : ModemSession) (log : ModemLog) (run : PortRun) (end : PortEnd) : Type 0 where
-  pub within : ArePassingsWithin (all_passed session log p run.journal.items)
-  pub none_begun : length run.journal.items ≢ 4194304 → begun_in session log p run.journal.items ≡ []
-  pub each : (played : PlainSession)
-      → IsPlayedWith (by_blocks session) p (all_passed session log p run.journal.items) played
-      → IsModemPlayedOn p session played log run end
+abbrev pub IsPortPlayed : (p : ℕ) → ModemSession → ModemLog → PortRun → PortEnd → Type 0
+IsPortPlayed p session log run end =
+    IsPlayedSo (by_blocks session) p (all_passed session log p run.journal.items)
+    (begun_in session log p run.journal.items) (λ played. IsModemPlayedOn p session played log run end) run
 
 -- the first ports were, with the log of all of them
-pub record AreFirstPlayed (session : ModemSession) (count : ℕ) (log : ModemLog) (runs : List PortRun)
-    (ends : List PortEnd) : Type 0 where
-  pub runs_of : length runs ≡ count
-  pub ends_of : length ends ≡ count
-  pub below : All (λ l. l.port < count) log
-  pub each : (p : ℕ) (run : PortRun) (end : PortEnd)
-      → slice_get runs p ≡ Some run
-      → slice_get ends p ≡ Some end
-      → IsPortPlayed p session (logged_on p log) run end
+abbrev pub AreFirstPlayed : ModemSession → (count : ℕ) → ModemLog → List PortRun → List PortEnd → Type 0
+AreFirstPlayed session count log runs ends =
+    ArePlayedFirst (λ p own run end. IsPortPlayed p session own run end) count log runs ends
 
 -- ---- a port that is played
 
@@ -79,8 +68,8 @@ pub record IsModemsEnd (first : Scene) (session : ModemSession) (v : PortValue) 
   pub limits : IsModemSessionWithin session
   pub on_port : first.port < session.ports
 
--- The journal is full, in the line of a phase or behind it: each session in which this was passed was played as far as it
--- went, and its log with it.
+-- The journal is full, in the line of a phase or behind it: each session in which this was passed was played as far
+-- as it went, and its log with it.
 pub record IsModemsFull (first : Scene) (session : ModemSession) (v : PortValue) (putter : PutterState Flagged)
     (line : LineState) (d : DeskState) : Type 0 where
   pub port : IsPort v

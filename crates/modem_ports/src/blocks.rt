@@ -1,7 +1,7 @@
 //! What a session has beside its ports' part, phase by phase: the calls that no port sees, and the items of the modem
 //! blocks.
 
-ghost use Rattle.std.specs.Prelude.{◌≡◌, ◌++◌, ◌∷◌, [], ◌==◌, IfOk, OnOk, filter, if◌then◌else◌, map};
+ghost use Rattle.std.specs.Prelude.{◌≡◌, ◌++◌, ◌∷◌, [], ◌==◌, IfOk, OnOk, if◌then◌else◌, map};
 ghost use Rattle.std.specs.Prelude.{slice_index_or};
 ghost use Rattle.modem_derived.specs.Blocks.{items_of_port, own_of, pins_of};
 

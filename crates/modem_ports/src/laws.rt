@@ -7,22 +7,20 @@ ghost use Rattle.uart_line.specs.LineState.{LineState};
 ghost use Rattle.tty_calls.specs.declared.answers.PortEnd.{PortEnd};
 ghost use Rattle.tty_calls.specs.declared.journals.PortRun.{PortRun};
 ghost use Rattle.port_core.specs.Ports.{PortValue};
-ghost use Rattle.one_thread.specs.Roles.{Scene};
-ghost use Rattle.one_thread.specs.Phases.{IsAtEnd, IsPortOf, IsFullRun};
-ghost use Rattle.one_thread.specs.Phases.{EndsRun};
-ghost use Rattle.one_thread.specs.Leaving.{EndsJournal};
-ghost use Rattle.one_thread.specs.Played.{IsPlayedOn};
-ghost use Rattle.one_thread.specs.Stages.{HasAnyOrder, IsOfSceneIn};
+ghost use Rattle.play_base.specs.Roles.{Scene};
+ghost use Rattle.play_base.specs.Phases.{IsAtEnd, IsPortOf, IsFullRun, EndsRun};
+ghost use Rattle.play_base.specs.Leaving.{EndsJournal};
+ghost use Rattle.play_base.specs.Played.{IsPlayedOn};
+ghost use Rattle.play_base.specs.Scenes.{HasAnyOrder, IsOfSceneIn};
 ghost use Rattle.passed_calls.specs.Within.{ArePassedWithin};
 ghost use Rattle.passed_ports.specs.Ports.{IsSceneOf};
 ghost use Rattle.modem_text.specs.Events.{ModemLog};
 ghost use Rattle.modem_text.specs.Sessions.{ModemSession};
 ghost use Rattle.modem_text.specs.Within.{IsModemSessionWithin};
 ghost use Rattle.modem_one.specs.Desk.{DeskState};
-ghost use Rattle.modem_one.specs.Played.{derived_with, journal_on, AreModemsPlayed};
-ghost use Rattle.modem_ports.specs.Blocks.{by_blocks};
-ghost use Rattle.modem_derived.specs.Blocks.{all_passed};
+ghost use Rattle.modem_one.specs.Played.{derived_with, AreModemsPlayed, by_blocks, all_passed};
 ghost use Rattle.modem_ports.specs.Ports.{IsModemsEnd, IsModemsFull, IsPortPlayed, AreFirstPlayed};
+ghost use Rattle.passed_laws.specs.Sessions.{journal_on};
 
 /// A port whose phases were played is hung up, and then it was played: its log is whole.
 pub fn a_modem_port_hung_up_was_played()

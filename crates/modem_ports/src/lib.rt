@@ -1,5 +1,5 @@
-//! A player of sessions of ports with modem lines on one thread: the ports one after the other, each from its opening to
-//! its hangup, with one log.
+//! A player of sessions of ports with modem lines on one thread: the ports one after the other, each from its opening
+//! to its hangup, with one log.
 #![tactic(auto)]
 
 mod blocks;

@@ -5,9 +5,9 @@ ghost use Rattle.tty_calls.specs.declared.answers.Denied.TheVariants as denied;
 ghost use Rattle.tty_calls.specs.Sessions.{session_of};
 ghost use Rattle.tty_base.specs.Lines.{is_step};
 ghost use Rattle.one_thread.specs.Acts.{BeginsLine, PlaysItsLine, StopsItsLine};
-ghost use Rattle.one_thread.specs.Roles.{scene_of};
+ghost use Rattle.play_base.specs.Roles.{scene_of};
 ghost use Rattle.calls_left.specs.Remaining.{calls_of_port};
-ghost use Rattle.modem_text.specs.Sessions.{modem_session_of, step_of};
+ghost use Rattle.modem_text.specs.Sessions.{modem_session_of};
 ghost use Rattle.modem_text.specs.Within.{IsModemSessionWithin};
 ghost use Rattle.modem_derived.specs.Blocks.{items_of_port, nothing_passed, pins_of};
 ghost use Rattle.modem_ports.specs.Between.{BeginsPhase, IsBetween, IsStillOpen, IsStoppedBy, Setting, setting_of};
@@ -18,9 +18,10 @@ use flip_buffer::FlipIn;
 use line_steps::LineSteps;
 use modem_one::{Desk, Items, play_after_line};
 use modem_text::{ModemPart, ModemSession, OwnCall, PinItem};
-use one_thread::{Role, Stand, Station, play_line, scripts_of, steps_of, ticks_of};
+use one_thread::{Stand, play_line};
 use passed_calls::PlacedCall;
 use passed_ports::{cast_in, take_steps};
+use play_base::{Role, Station, scripts_of, steps_of, ticks_of};
 use port_core::Port;
 use std::alloc::Global;
 use tty_base::NoMemory;
@@ -166,7 +167,7 @@ fn play_parts(
         steps,
         run,
     );
-    let _journal = at.station.port.journal();
+    at.station.port.known();
     let run = played?;
     let stand = Stand {
         run,
@@ -183,6 +184,6 @@ fn play_parts(
         items,
         stand,
     );
-    let _end = at.station.port.journal();
+    let _end = at.station.port.journal(); // known: the journal is a run
     ended
 }

@@ -2,21 +2,21 @@
 
 ghost use Rattle.std.specs.Prelude.{◌≡◌, ◌<◌, ℕ, IfOk, IfErr, length, map};
 ghost use Rattle.tty_calls.specs.Sessions.{session_of};
-ghost use Rattle.one_thread.specs.Roles.{Scene, scene_of};
+ghost use Rattle.play_base.specs.Roles.{Scene, scene_of};
 ghost use Rattle.modem_text.specs.Events.{logged_of};
 ghost use Rattle.modem_text.specs.Sessions.{ModemSession as PlainModemSession, modem_session_of};
 ghost use Rattle.modem_text.specs.Within.{IsModemSessionWithin};
 ghost use Rattle.modem_one.specs.Desk.{AreOn};
+ghost use Rattle.modem_one.specs.Played.{by_blocks};
 ghost use Rattle.passed_ports.specs.Ports.{IsSceneOf};
 ghost use Rattle.modem_derived.specs.Blocks.{nothing_passed};
-ghost use Rattle.modem_ports.specs.Blocks.{by_blocks};
-ghost use Rattle.modem_ports.specs.Between.{IsBetween, IsStoppedBy, setting_of};
+ghost use Rattle.modem_ports.specs.Between.{IsBetween, IsStoppedBy};
 ghost use Rattle.modem_ports.specs.Ports.{IsModemsEnd, IsModemsFull, IsPortPlayed};
 
 use crate::phases::{ModemStation, play_phase};
 use modem_one::Desk;
 use modem_text::{ModemLog, ModemSession};
-use one_thread::{hang_up, open_port, stop};
+use play_base::{hang_up, open_port, stop};
 use std::alloc::Global;
 use tty_base::NoMemory;
 use tty_calls::{Denied, Names, PortEnd, PortRun, Session};
@@ -41,13 +41,13 @@ fn open(
     requires port { number < (session_of base.now).ports }
     ensures { IfOk result (λ at. IsBetween (scene_of number base.now) (modem_session_of session.now) 0 0 at) }
 {
-    let _ = session;
+    let _ = session; // for the contract alone
     let port = usize::from(number);
     let names = Names::on_port(alloc, base, port)?;
     let next = vec![in alloc; 0; names.len()]?;
     let desk = Desk::new(alloc, number, next);
     let station = open_port(alloc, base, port, &names)?;
-    let _journal = station.port.journal();
+    station.port.known();
     Ok(ModemStation {
         names,
         station,

@@ -7,9 +7,10 @@ ghost use Rattle.modem_text.specs.Events.{logged_of};
 ghost use Rattle.modem_text.specs.Sessions.{modem_session_of};
 ghost use Rattle.modem_text.specs.Within.{IsModemSessionWithin};
 ghost use Rattle.modem_steps.specs.Derived.{passings_on};
-ghost use Rattle.modem_one.specs.Played.{AreModemsPlayed, begun_in, journal_on};
+ghost use Rattle.modem_one.specs.Played.{AreModemsPlayed, begun_in};
 ghost use Rattle.modem_derived.specs.Blocks.{nothing_passed};
 ghost use Rattle.modem_ports.specs.Ports.{AreFirstPlayed};
+ghost use Rattle.passed_laws.specs.Sessions.{journal_on};
 
 use crate::ports::play_port;
 use modem_derived::{base_of, derive_session};
@@ -36,8 +37,8 @@ struct PortsRan {
     ends: Buffer<PortEnd>,
 }
 
-/// Plays a session with modem lines on one thread (termios(3), ioctl_tty(2)), its ports one after the other. A port whose
-/// journal is full is played no further.
+/// Plays a session with modem lines on one thread (termios(3), ioctl_tty(2)), its ports one after the other. A port
+/// whose journal is full is played no further.
 pub fn modem_run(alloc: Global, session: &ModemSession) -> Result<ModemRan, NoMemory>
     requires { IsModemSessionWithin (modem_session_of session.now) }
     ensures played { IfOk result (λ ran. AreModemsPlayed (modem_session_of session.now) (map logged_of ran.log.items)

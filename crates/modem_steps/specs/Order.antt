@@ -9,8 +9,8 @@ use Rattle.tty_calls.specs.Plain.{clock_ended, caller_ended, phase_ended, hung_u
 use Rattle.tty_calls.specs.Sessions.{PlainSession, call_at}
 use Rattle.tty_terminal.specs.Terminals.{Terminal, caller_at}
 use Rattle.tty_terminal.specs.Steps.{nothing_to_flush}
-use Rattle.one_thread.specs.Order.{must_wait, is_waiting, Place, turn, first_place}
-use Rattle.one_thread.specs.Order.{next_place, place_after, IsPieceOf, AllSeeAll}
+use Rattle.one_order.specs.Order.{must_wait, is_waiting, Place, turn, first_place, next_place, place_after, IsPieceOf}
+use Rattle.one_order.specs.Order.{AllSeeAll}
 use Rattle.modem_lines.specs.Lines.{Lines}
 use Rattle.passed_calls.specs.Journals.{terminal_at}
 use Rattle.passed_calls.specs.Logs.{logged_on}
@@ -18,7 +18,7 @@ use Rattle.passed_calls.specs.Scripts.{plain, further}
 use Rattle.modem_text.specs.Events.{ModemEvent, pin_set, own, passed, carrier_lost, ModemLog}
 use Rattle.modem_text.specs.Sessions.{ModemCall}
 use Rattle.modem_steps.specs.Derived.{carrier_on, derived}
-use Rattle.modem_steps.specs.Steps.{ModemState, Port, Item, items_on, next_call}
+use Rattle.modem_steps.specs.Steps.{ModemState, Port, PlacedItem, items_on, next_call}
 use Rattle.modem_steps.specs.Steps.{waits_for_carrier, callers_in, first_state, after_event}
 
 -- somebody makes an entry, or a caller a call that the port does not see; the next item of the modem block is done;
@@ -45,7 +45,7 @@ abbrev pub can_go_on : Port → ModemState → Terminal → ℕ → Bool
 can_go_on port s t c = goes_on_with s.lines port.journal.calls t (next_call port s t c) c
 
 -- an item of the modem block of this phase is left
-abbrev pub is_of_phase : ℕ → Option Item → Bool
+abbrev pub is_of_phase : ℕ → Option PlacedItem → Bool
 is_of_phase phase None = false
 is_of_phase phase (Some item) = item.phase == phase
 

@@ -8,7 +8,7 @@ use Rattle.tty_calls.specs.Plain.{line_ended, clock_ended, caller_ended, phase_e
 use Rattle.tty_calls.specs.Sessions.{PlainPhase, PlainSession, call_at, counts_on}
 use Rattle.tty_terminal.specs.Terminals.{opening}
 use Rattle.tty_terminal.specs.Rows.{whole, answers}
-use Rattle.journal_check.specs.Legal.{flip_on}
+use Rattle.legal_runs.specs.Legal.{flip_on}
 use Rattle.modem_lines.specs.declared.pins.Pin.{Pin}
 use Rattle.modem_lines.specs.declared.pins.Pin.TheVariants.{Dcd}
 use Rattle.passed_calls.specs.declared.logs.Logged.{Logged}

@@ -8,9 +8,9 @@ use Rattle.tty_base.specs.declared.counters.Errno.TheVariants.{EBADF, EIO}
 use Rattle.tty_calls.specs.Plain.{PlainCall, opens, closes, hangs_up, PlainAnswer, done, number_is, refused, idle}
 use Rattle.handle_table.specs.declared.HandleState.{HandleState}
 use Rattle.handle_table.specs.Handles.{is_live}
-use Rattle.tty_terminal.specs.Terminals.{Terminal, handle_at, caller_at, live_count}
+use Rattle.tty_terminal.specs.Terminals.{Terminal, handle_at, caller_at, has_begun, live_count}
 use Rattle.tty_terminal.specs.Steps.{nothing_to_flush}
-use Rattle.one_thread.specs.Order.{must_wait, is_waiting}
+use Rattle.one_order.specs.Order.{must_wait, is_waiting}
 use Rattle.modem_lines.specs.declared.pins.Pin.{Pin}
 use Rattle.modem_lines.specs.Lines.{Lines, first_lines, with_pin, loses_carrier, may_open, after_open, after_shut}
 use Rattle.modem_lines.specs.Lines.{assigned, raised, lowered, modem_bits, status_register, after_status}
@@ -156,26 +156,27 @@ nobody_goes_on port s t c =
 -- ---- the step
 
 -- the items of a port's modem blocks, each with its phase
-pub record Item : Type 0 where
+pub record PlacedItem : Type 0 where
   pub phase : ℕ
   pub step : PinStep
 
-abbrev pub items_from : ℕ → (phase : ℕ) → List ModemPhase → List Item
+abbrev pub items_from : ℕ → (phase : ℕ) → List ModemPhase → List PlacedItem
 items_from p k [] = []
 items_from p k (phase ∷ phases) =
     map (λ step. record { phase = k; step = step }) (pins_on p phase) ++ items_from p (k + 1) phases
 
-abbrev pub items_on : Port → List Item
+abbrev pub items_on : Port → List PlacedItem
 items_on port = items_from port.number 0 port.session.phases
 
 -- the least number of a live handle
 abbrev pub least_live : Terminal → List ℕ
 least_live t = option_to_list (position is_live t.handles)
 
--- the next item, of the phase that runs, before `carrier` is over there
+-- the next item, of the phase that runs, before `carrier` is over there, and where it has begun no hangup
 pub record IsPin (port : Port) (s : ModemState) (t : Terminal) (pin : Pin) (up : Bool) : Type 0 where
   pub nothing_due : s.due ≡ []
   pub in_block : (caller_at t (carrier_on port.number port.session)).over ≡ false
+  pub between : has_begun (caller_at t (carrier_on port.number port.session)) ≡ false
   pub item : slice_get (items_on port) s.items ≡ Some (record { phase = t.phase; step = record { pin = pin; up = up } })
 
 -- what is answered without the port
@@ -186,23 +187,32 @@ OwnAnswer port s t c (Some (plain call)) answer =
 OwnAnswer port s t c (Some (further call)) answer =
     answer ≡ through (handle_at t (modem_handle call)) (modem_gives s.lines call)
 
+-- by a caller that has begun no call of the port
 pub record IsOwn (port : Port) (s : ModemState) (t : Terminal) (c step : ℕ) (answer : PlainAnswer) : Type 0 where
   pub nothing_due : s.due ≡ []
   pub next : step ≡ next_of s c
+  pub between : has_begun (caller_at t c) ≡ false
   pub answers : OwnAnswer port s t c (next_call port s t c) answer
 
 -- what the port is passed: a call that is for it, and no open that waits for the carrier when it is answered
-abbrev pub IsPlain : Option ModemCall → Type 0
-IsPlain (Some (plain call)) = Unit {0}
-IsPlain other = ⊥
+abbrev pub IsForPort : Option ModemCall → Type 0
+IsForPort (Some (plain call)) = Unit {0}
+IsForPort other = ⊥
 
--- The answer is logged before anything else comes, so that the lines are those with which the call went on.
+-- an entry of a call by its step in the journal is of this call
+abbrev pub IsOfCall : Port → (c step : ℕ) → Option ModemCall → Type 0
+IsOfCall port c step (Some (plain call)) = port.journal.calls c step ≡ Some call
+IsOfCall port c step other = ⊥
+
+-- The answer is logged before anything else comes, so that the lines are those with which the call went on; and its
+-- entry is of this call.
 pub record IsPassed (port : Port) (s : ModemState) (at c step : ℕ) (answer : PlainAnswer) : Type 0 where
   pub nothing_due : s.due ≡ []
   pub next : step ≡ next_of s c
-  pub for_port : IsPlain (next_call port s (terminal_at port.journal at) c)
+  pub for_port : IsForPort (next_call port s (terminal_at port.journal at) c)
   pub entry : IsAnswerAt port.journal c at answer
   pub at_once : s.at < at
+  pub of_call : IsOfCall port c entry.entry.step (next_call port s (terminal_at port.journal at) c)
   pub not_held_up : waits_for_carrier s.lines (terminal_at port.journal (at - 1))
       (next_call port s (terminal_at port.journal at) c) ≡ false
 
@@ -211,6 +221,7 @@ pub record IsLoss (port : Port) (s : ModemState) (at h : ℕ) : Type 0 where
   pub is_due : s.due ≡ h ∷ []
   pub entry : IsAnswerAt port.journal (carrier_on port.number port.session) at done
   pub at_once : at ≡ s.at + 1
+  pub of_call : port.journal.calls (carrier_on port.number port.session) entry.entry.step ≡ Some (hangs_up h)
 
 abbrev pub IsAllowed : Port → ModemState → (at : ℕ) → ModemEvent → Type 0
 IsAllowed port s at (pin_set pin up) = IsPin port s (terminal_at port.journal at) pin up

@@ -34,8 +34,8 @@ pub fn no_carrier()
 {}
 
 /// A law: a log is none of the port where an open goes on without a carrier, a lost carrier hangs nothing up, or
-/// hangs up under CLOCAL, the lines are told otherwise, a change is told twice, a call is answered in another phase than
-/// its own, or an open is given up too early.
+/// hangs up under CLOCAL, the lines are told otherwise, a change is told twice, a call is answered in another phase
+/// than its own, or an open is given up too early.
 pub fn wrong_logs_are_none()
     ensures opened_early { IsModemRun (port_of dial_in opened_early dial_in_journal) opened_early → ⊥ }
     ensures not_hung_up { IsModemRun (port_of dial_in not_hung_up dial_in_journal) not_hung_up → ⊥ }

@@ -6,6 +6,7 @@ use Rattle.std.specs.List.{AllByRecursion}
 use Rattle.std.proofs.lemmas.List.Elements.{All-from_recursion}
 use Rattle.std.proofs.lemmas.List.Concat.{flat_map-append}
 use Rattle.std.proofs.lemmas.List.FromFn.{length-map-range_with_len}
+use Rattle.tty_base.specs.Sizes.{MOST_STEPS}
 use Rattle.tty_calls.specs.Limits.{IsWithinLimits, IsPhaseWithin, call_count}
 use Rattle.tty_calls.specs.Sessions.{PlainPhase, PlainSession}
 use Rattle.session_text.specs.Drafts.{all_phases}
@@ -34,7 +35,7 @@ record Ends (r : ModemReading) (lines : List (List (List ℕ))) (s : ModemSessio
   is : s ≡ session_with base parts
   calls : Outside r → flat_map own_of parts ≡ so_far own_of r ++ flat_map call_in (flat_map items_said lines)
   pins : Outside r → flat_map pins_of parts ≡ so_far pins_of r ++ flat_map pin_in (flat_map items_said lines)
-  few : Holds r → call_count base.phases + sum_by size parts ≤ 65536
+  few : Holds r → call_count base.phases + sum_by size parts ≤ MOST_STEPS
   callers : Holds r → AllByRecursion (λ (phase : PlainPhase). AreCallers (keys_in phase)) base.phases
 
 at_end : {X : Type 0} (of_part : PlainPart → List X) (r : ModemReading)
@@ -111,7 +112,7 @@ session_left text s e =
 
 with_limits : (base : PlainSession) (parts : List PlainPart)
     → IsWithinLimits base
-    → call_count base.phases + sum_by size parts ≤ 65536
+    → call_count base.phases + sum_by size parts ≤ MOST_STEPS
     → AllByRecursion (λ (phase : PlainPhase). AreCallers (keys_in phase)) base.phases
     → IsModemSessionWithin (session_with base parts)
 with_limits base parts h few callers = record {

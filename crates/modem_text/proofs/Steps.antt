@@ -7,6 +7,7 @@ use Rattle.std.specs.List.{AllByRecursion}
 use Rattle.std.specs.Str.{bytes_eq}
 use Rattle.std.proofs.lemmas.Bool.{both_ways, leb-false, eqb-true}
 use Rattle.std.proofs.lemmas.List.Sums.{sum_by-cons, sum_by_push}
+use Rattle.tty_base.specs.Sizes.{MOST_STEPS}
 use Rattle.tty_calls.specs.Sessions.{PlainPhase, PlainSession}
 use Rattle.text_lines.specs.Lines.{first_is}
 use Rattle.text_lines.specs.Values.{word_at, number_at}
@@ -55,7 +56,7 @@ pub record AreCallers (keys : List PlainKey) : Type 0 where
   pub few : (p : ℕ) → callers_on p keys ≤ 15
 
 pub record Holds (r : ModemReading) : Type 0 where
-  pub few : draft_calls r.base.session.draft + (sum_by size r.parts + (size r.part + r.base.steps_left)) ≤ 65536
+  pub few : draft_calls r.base.session.draft + (sum_by size r.parts + (size r.part + r.base.steps_left)) ≤ MOST_STEPS
   pub each : EachPhase AreCallers r.base.session.draft
   pub here : in_phase r.base.session.stand.place ≡ true → HasOpen r.callers r.base.session.draft.open_phase
 

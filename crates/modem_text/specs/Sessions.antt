@@ -1,5 +1,5 @@
 -- Sessions of ports with modem lines.
-use Rattle.std.specs.Prelude.{ℕ, ◌==◌, Bool, List, [], ◌∷◌, ◌++◌, map, filter, flat_map, slice_index_or, codes}
+use Rattle.std.specs.Prelude.{ℕ, ◌==◌, Bool, List, [], ◌++◌, map, filter, flat_map, slice_index_or, codes}
 use Rattle.std.specs.List.{range_with_len}
 use Rattle.tty_base.specs.declared.lines.LineStep.{LineStep}
 use Rattle.tty_calls.specs.Sessions.{PlainPhase, PlainSession, session_of}

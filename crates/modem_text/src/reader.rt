@@ -2,7 +2,7 @@
 
 ghost use Rattle.std.specs.Prelude.{◌≡◌, ◌==◌, OnOk, count_by};
 ghost use Rattle.text_lines.specs.Lines.{words_of};
-ghost use Rattle.session_text.specs.Reading.{Gives};
+ghost use Rattle.session_text.specs.Reading.{GivesRead};
 ghost use Rattle.session_text.specs.Stands.{holds};
 ghost use Rattle.further_text.specs.Reading.{spend};
 ghost use Rattle.further_text.specs.Sorts.{sort_of};
@@ -71,7 +71,7 @@ impl ModemReader {
 
     /// Reads the line with this number.
     fn read_line(&mut self, alloc: Global, number: u32, line: &[u8]) -> Result<(), TextFault>
-        ensures { Gives (λ _. modem_reading_of self.new) result
+        ensures { GivesRead (λ _. modem_reading_of self.new) result
             (after_line (modem_reading_of self.old) number (words_of line.now)) }
     {
         match split_word(line) {
@@ -92,7 +92,7 @@ impl ModemReader {
         word: &[u8],
         arguments: &FirstTwo,
     ) -> Result<(), TextFault>
-        ensures { Gives (λ _. modem_reading_of self.new) result
+        ensures { GivesRead (λ _. modem_reading_of self.new) result
             (after_item (modem_reading_of self.old) number word.now arguments.now) }
     {
         if self.base.is_at_start() {
@@ -112,7 +112,7 @@ impl ModemReader {
         word: &[u8],
         arguments: &FirstTwo,
     ) -> Result<(), TextFault>
-        ensures { Gives (λ _. modem_reading_of self.new) result
+        ensures { GivesRead (λ _. modem_reading_of self.new) result
             (after_session_item (modem_reading_of self.old) number word.now arguments.now) }
     {
         self.base.read_item(alloc, number, word, arguments)
@@ -126,7 +126,7 @@ impl ModemReader {
         word: &[u8],
         arguments: &FirstTwo,
     ) -> Result<(), TextFault>
-        ensures { Gives (λ _. modem_reading_of self.new) result
+        ensures { GivesRead (λ _. modem_reading_of self.new) result
             (after_shared (modem_reading_of self.old) number word.now arguments.now (sort_of word.now)) }
     {
         match sort_of(word) {
@@ -149,7 +149,7 @@ impl ModemReader {
         word: &[u8],
         arguments: &FirstTwo,
     ) -> Result<(), TextFault>
-        ensures { Gives (λ _. modem_reading_of self.new) result
+        ensures { GivesRead (λ _. modem_reading_of self.new) result
             (after_shared (modem_reading_of self.old) number word.now arguments.now Sort.Caller) }
     {
         if !has_count(arguments, 2) {
@@ -171,7 +171,7 @@ impl ModemReader {
         arguments: &FirstTwo,
         port: u64,
     ) -> Result<(), TextFault>
-        ensures { Gives (λ _. modem_reading_of self.new) result
+        ensures { GivesRead (λ _. modem_reading_of self.new) result
             (after_opening (modem_reading_of self.old) number word.now arguments.now port) }
     {
         self.read_by_session(alloc, number, word, arguments)?;
@@ -186,7 +186,7 @@ impl ModemReader {
     }
 
     fn open_caller(&mut self, number: u32, port: u64) -> Result<(), TextFault>
-        ensures { Gives (λ _. modem_reading_of self.new) result (with_caller number port (modem_reading_of self.old)) }
+        ensures { GivesRead (λ _. modem_reading_of self.new) result (with_caller number port (modem_reading_of self.old)) }
     {
         if callers_on(self.callers.as_slice(), port) >= CALLERS {
             return Err(bad(number, Reason::Limit));
@@ -206,7 +206,7 @@ impl ModemReader {
         word: &[u8],
         arguments: &FirstTwo,
     ) -> Result<(), TextFault>
-        ensures { Gives (λ _. modem_reading_of self.new) result
+        ensures { GivesRead (λ _. modem_reading_of self.new) result
             (after_shared (modem_reading_of self.old) number word.now arguments.now Sort.Border) }
     {
         let is_open = self.base.is_in_phase();
@@ -237,7 +237,7 @@ impl ModemReader {
         word: &[u8],
         arguments: &FirstTwo,
     ) -> Result<(), TextFault>
-        ensures { Gives (λ _. modem_reading_of self.new) result
+        ensures { GivesRead (λ _. modem_reading_of self.new) result
             (after_shared (modem_reading_of self.old) number word.now arguments.now Sort.Inside) }
     {
         if matches!(self.block, Block::Modem(_)) {
@@ -248,7 +248,7 @@ impl ModemReader {
 
     /// Counts a step.
     fn spend(&mut self, number: u32) -> Result<(), TextFault>
-        ensures { Gives (λ _. modem_reading_of self.new) result
+        ensures { GivesRead (λ _. modem_reading_of self.new) result
             (with_base (modem_reading_of self.old) (spend number (modem_reading_of self.old).base)) }
     {
         self.base.spend(number)
@@ -261,7 +261,7 @@ impl ModemReader {
         verb: ModemVerb,
         arguments: &FirstTwo,
     ) -> Result<(), TextFault>
-        ensures { Gives (λ _. modem_reading_of self.new) result
+        ensures { GivesRead (λ _. modem_reading_of self.new) result
             (after_own (modem_reading_of self.old) number verb arguments.now) }
     {
         if !self.may_stand(verb) {
@@ -286,7 +286,7 @@ impl ModemReader {
     }
 
     fn take_item(&mut self, number: u32, item: ModemItem) -> Result<(), TextFault>
-        ensures { Gives (λ _. modem_reading_of self.new) result (with_item (modem_reading_of self.old) number item) }
+        ensures { GivesRead (λ _. modem_reading_of self.new) result (with_item (modem_reading_of self.old) number item) }
     {
         match item {
             ModemItem::Block { port } => self.open_modem(number, port),
@@ -303,7 +303,7 @@ impl ModemReader {
     }
 
     fn open_modem(&mut self, number: u32, port: u8) -> Result<(), TextFault>
-        ensures { Gives (λ _. modem_reading_of self.new) result
+        ensures { GivesRead (λ _. modem_reading_of self.new) result
             (with_item (modem_reading_of self.old) number (ModemItem.Block port)) }
     {
         let key = u64::from(port);
@@ -339,7 +339,7 @@ impl ModemReader {
 
     /// The session, where the text ends before the line with this number.
     fn finish(self, number: u32) -> Result<ModemSession, TextFault>
-        ensures { Gives modem_session_of result (modem_at_end (modem_reading_of self) number) }
+        ensures { GivesRead modem_session_of result (modem_at_end (modem_reading_of self) number) }
     {
         let ModemReader {
             base,
@@ -379,7 +379,7 @@ fn callers_on(ports: &[u64], port: u64) -> usize
 /// The session that a text spells. `Bad` comes exactly where it spells none, and names its first wrong line, counted
 /// from 1 and as far as 32 bits count, and why that line is wrong.
 pub fn parse_modem(alloc: Global, text: &[u8]) -> Result<ModemSession, TextFault>
-    ensures { Gives modem_session_of result (modem_in text.now) }
+    ensures { GivesRead modem_session_of result (modem_in text.now) }
 {
     let mut reader = ModemReader::new(alloc);
     let mut rest = text;

@@ -1,10 +1,11 @@
 -- How far a call moves the column at most, how much room it spends, and that it sets no tick but now: what a caller
 -- of many needs.
-use Rattle.std.proofs.Common.{◌≡◌, ap, ℕ, ◌+◌, ◌*◌, ◌-◌, ◌%◌, ◌^◌, ◌≤◌, Bool, true, false, if◌then◌else◌, not, ◌&&◌}
+use Rattle.std.proofs.Common.{◌≡◌, ap, ℕ, ◌+◌, ◌*◌, ◌-◌, ◌%◌, ◌≤◌, Bool, true, false, if◌then◌else◌, not, ◌&&◌}
 use Rattle.std.proofs.Common.{◌||◌, ◌==◌, nat_le, nat_lt, bit_xor, Option, None, Some, List, [], ◌∷◌, ◌++◌, length}
 use Rattle.std.proofs.Common.{replicate, take, drop, sym, subst, refl, inl, inr, arith, length-append, length-drop}
 use Rattle.std.proofs.lemmas.Bool.{cond_both}
 use Rattle.std.proofs.lemmas.List.{length-replicate, length-take, take-append-drop}
+use Rattle.tty_base.specs.Sizes.{COLUMNS_OF_CHARACTER, COLUMNS_OF_PIECE, MOST_LINE, MOST_POSTED, MOST_UNREAD}
 use Rattle.tty_base.specs.declared.characters.Flag.{Flag}
 use Rattle.tty_base.specs.declared.characters.Flag.TheVariants as flag
 use Rattle.tty_base.specs.declared.counters.Signal.{Signal}
@@ -160,7 +161,7 @@ echo_of_kill-le modes start (b ∷ line) =
 
 added-le : (line bytes : List ℕ) → length (after_change line (AddBytes bytes)) ≤ length line + length bytes
 added-le line bytes =
-    cond_both (nat_le (length line + length bytes) 4095) (line ++ bytes) line
+    cond_both (nat_le (length line + length bytes) MOST_LINE) (line ++ bytes) line
     (λ xs. length xs ≤ length line + length bytes)
     (λ _. omega (arith, length-append line bytes)) (λ _. omega arith)
 
@@ -297,7 +298,7 @@ tally_after_try-signals output text tally =
 -- A character leaves the column near, since an echo moves it by at most 64 for each of its bytes; the tick of the
 -- last byte is now or stays; and it spends at most so much of the room, beyond what was pending.
 pub record Near (now : ℕ) (port port' : OnPort) : Type 0 where
-  pub moved : port'.tty.column ≤ port.tty.column + 2 ^ 22
+  pub moved : port'.tty.column ≤ port.tty.column + COLUMNS_OF_CHARACTER
   pub past : port.tty.last ≤ now → port'.tty.last ≤ now
   pub spent : port.output.spare + pending_count port'.tty port'.output
       ≤ port'.output.spare + (pending_count port.tty port.output + 40)
@@ -331,7 +332,7 @@ near_echo modes now text echo port port' still short posts =
     let bytes = all_posted_bytes modes port'.tty.column echo in
     record {
       moved = cond_both (has_room port'.output bytes) (column_past_text modes port'.tty.column bytes) port'.tty.column
-          (λ n. n ≤ port.tty.column + 2 ^ 22)
+          (λ n. n ≤ port.tty.column + COLUMNS_OF_CHARACTER)
           (λ _. omega (
             arith,
             still.column,
@@ -359,7 +360,7 @@ still_stored : (modes : Settings) (now : ℕ) (bytes : List ℕ) (port : OnPort)
     → Stores now bytes port (after_store modes now bytes port)
 still_stored modes now bytes port =
     cond_both (has_flag modes ICANON) _ _ (Stores now bytes port)
-    (λ _. cond_both (nat_le (length port.tty.edit + length bytes) 4095) _ _ (Stores now bytes port)
+    (λ _. cond_both (nat_le (length port.tty.edit + length bytes) MOST_LINE) _ _ (Stores now bytes port)
     (λ _ text few. record {
       column = refl;
       past = λ h. omega arith;
@@ -410,7 +411,7 @@ near_ordinary modes now b port =
     (still_stored modes now bytes port 24 (omega (arith, few)))
 
 near_as : (modes : Settings) (now : ℕ) (r : Role) (b : ℕ) (port : OnPort)
-    → length port.tty.edit ≤ 4096
+    → length port.tty.edit ≤ MOST_UNREAD
     → Near now port (after_role modes now r b port)
 near_as modes now role.Erase b port short =
     let gone = gone_of modes port.tty.start port.tty.edit in
@@ -455,7 +456,7 @@ near_as modes now role.Delimiter b port short =
 near_as modes now role.Ordinary b port short = near_ordinary modes now b port
 
 near_mapped : (modes : Settings) (now : ℕ) (m : Option ℕ) (port : OnPort)
-    → length port.tty.edit ≤ 4096
+    → length port.tty.edit ≤ MOST_UNREAD
     → Near now port (after_mapped modes now m port)
 near_mapped modes now None port short = unmoved now port
 near_mapped modes now (Some b) port short =
@@ -463,7 +464,7 @@ near_mapped modes now (Some b) port short =
     (λ _. near_ordinary modes now b port)
 
 near_unsteered : (modes : Settings) (now b : ℕ) (signal : Option Signal) (port : OnPort)
-    → length port.tty.edit ≤ 4096
+    → length port.tty.edit ≤ MOST_UNREAD
     → Near now port (after_unsteered modes now b signal port)
 near_unsteered modes now b (Some signal) port short =
     near_event modes now (event.Plain b) port
@@ -478,7 +479,7 @@ resumed_line true port = refl
 resumed_line false port = refl
 
 near_unquoted : (modes : Settings) (now b : ℕ) (port : OnPort)
-    → length port.tty.edit ≤ 4096
+    → length port.tty.edit ≤ MOST_UNREAD
     → Near now port (after_unquoted modes now b port)
 near_unquoted modes now b port short =
     let applies = has_flag modes IXON && has_flag modes IXANY in
@@ -491,7 +492,7 @@ near_unquoted modes now b port short =
     (near_unsteered modes now b (signal_of modes b) resumes (omega (arith, short, resumed_line applies port)))))
 
 near_good : (modes : Settings) (now b : ℕ) (port : OnPort)
-    → length port.tty.edit ≤ 4096
+    → length port.tty.edit ≤ MOST_UNREAD
     → Near now port (after_good modes now b port)
 near_good modes now b port short =
     cond_both port.tty.quoted _ _ (Near now port)
@@ -511,7 +512,7 @@ near_break modes now port =
     (λ _. near now port (after_store modes now bytes port) (still_stored modes now bytes port 0 (omega (arith, few)))))
 
 near_bad : (modes : Settings) (now b : ℕ) (port : OnPort)
-    → length port.tty.edit ≤ 4096
+    → length port.tty.edit ≤ MOST_UNREAD
     → Near now port (after_bad modes now b port)
 near_bad modes now b port short =
     let bytes = if has_flag modes PARMRK then 255 ∷ 0 ∷ b ∷ [] else 0 ∷ [] in
@@ -528,7 +529,7 @@ near_counted : (now : ℕ) (kind : Counter) (port port' : OnPort)
 near_counted now kind port port' h = record { moved = h.moved; past = h.past; spent = h.spent; signals = h.signals }
 
 after_flagged-near : (modes : Settings) (now : ℕ) (f : Flag) (b : ℕ) (port : OnPort)
-    → length port.tty.edit ≤ 4096
+    → length port.tty.edit ≤ MOST_UNREAD
     → Near now port (after_flagged modes now f b port)
 after_flagged-near modes now flag.Normal b port short = near_good modes now b port short
 after_flagged-near modes now flag.Break b port short =
@@ -541,14 +542,14 @@ after_flagged-near modes now flag.Overrun b port short =
     near_counted now counter.Mark port _ (unmoved now (with_one_more counter.Mark port))
 
 -- the same of a port that is known to be what such a character leaves
-pub near_by : (modes : Settings) (now : ℕ) (f : Flag) (b : ℕ) (port port' : OnPort) → length port.tty.edit ≤ 4095
+pub near_by : (modes : Settings) (now : ℕ) (f : Flag) (b : ℕ) (port port' : OnPort) → length port.tty.edit ≤ MOST_LINE
     → port' ≡ after_flagged modes now f b port → Near now port port'
 near_by modes now f b port port' short left =
     subst (Near now port) (sym left) (after_flagged-near modes now f b port (omega (arith, short)))
 
 -- a piece of a write moves the column by at most 4096, and takes at most 512 of the room on the wire
 pub after_write-column-le : (modes : Settings) (output : Output) (bytes : List ℕ) (tty : NTtyState)
-    → (after_write modes output bytes tty).column ≤ tty.column + 4096
+    → (after_write modes output bytes tty).column ≤ tty.column + COLUMNS_OF_PIECE
 after_write-column-le modes output bytes tty =
     let size = piece_size modes tty output bytes in
     omega (
@@ -561,7 +562,7 @@ after_write-column-le modes output bytes tty =
     )
 
 pub piece_text-le : (modes : Settings) (tty : NTtyState) (output : Output) (bytes : List ℕ)
-    → length (piece_text modes tty output bytes) ≤ 512
+    → length (piece_text modes tty output bytes) ≤ MOST_POSTED
 piece_text-le modes tty output bytes =
     let size = piece_size modes tty output bytes in
     omega (

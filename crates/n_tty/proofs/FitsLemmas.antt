@@ -2,6 +2,7 @@
 use Rattle.std.proofs.Common.{◌≡◌, ℕ, zero, suc, ◌+◌, ◌≤◌, ◌<◌, Bool, true, false, not, ◌&&◌, Option, None, Some}
 use Rattle.std.proofs.Common.{List, [], ◌∷◌, ◌++◌, length, map, drop, ap, sym, ◌∙◌, refl, arith, nat_le, subst}
 use Rattle.std.proofs.lemmas.Bool.{cond_both, cond-true, cond-false, true≢false, lt-ltb, ltb-true}
+use Rattle.tty_base.specs.Sizes.{MOST_LINE}
 use Rattle.tty_base.specs.declared.characters.Flag.{Flag}
 use Rattle.tty_base.specs.declared.characters.Flag.TheVariants as flag
 use Rattle.tty_base.specs.declared.counters.Signal.{Signal}
@@ -155,7 +156,7 @@ Fits-stored : (modes : Settings) (now : ℕ) (bytes : List ℕ) (port : OnPort)
     → Fits modes (after_store modes now bytes port)
 Fits-stored modes now bytes port fits =
     cond_both (has_flag modes ICANON) _ _ (Fits modes)
-    (λ canonical. cond_both (nat_le (length port.tty.edit + length bytes) 4095) _ _ (Fits modes)
+    (λ canonical. cond_both (nat_le (length port.tty.edit + length bytes) MOST_LINE) _ _ (Fits modes)
     (λ _. FitsModes-canonical modes _ canonical (fits.ended canonical)) (λ _. fits))
     (λ plain.
     FitsModes-plain modes _ plain (end_count-with_plain port.tty.items bytes ∙ fits.no_ends plain) (fits.no_line plain))

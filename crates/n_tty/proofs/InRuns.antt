@@ -4,6 +4,7 @@ use Rattle.std.proofs.Common.{[], ◌∷◌, ◌++◌, length, map, ap, sym, ◌
 use Rattle.std.proofs.Common.{ne_eqb, length-append, le-leb, lt-ltb}
 use Rattle.std.proofs.lemmas.Bool.{cases_Bool, cond-true, cond-false}
 use Rattle.std.specs.List.{AllByRecursion}
+use Rattle.tty_base.specs.Sizes.{MOST_ENDS, MOST_LINE, MOST_TO_ACCEPT, MOST_TO_ACCEPT_MARKED}
 use Rattle.tty_base.specs.declared.characters.Flagged.{Flagged}
 use Rattle.tty_modes.specs.Settings.{Settings, has_flag}
 use Rattle.tty_modes.specs.declared.places.TheConstants.{ICANON, IXOFF, PARMRK, ISTRIP, ECHO}
@@ -38,13 +39,15 @@ Fits-all modes now (c ∷ cs) port fits =
 pub record MayRun (modes : Settings) (n : ℕ) (port : OnPort) : Type 0 where
   pub unquoted : port.tty.quoted ≡ false
   pub quiet : port.output.noted ≡ false
-  pub ends : end_count port.tty.items < 4096
+  pub ends : end_count port.tty.items < MOST_ENDS
   pub room : unread_count port.tty + n ≤ 4093
 
-always : (modes : Settings) (unread : ℕ) → unread ≤ 4092 → nat_le unread (most_unread modes) ≡ true
+always : (modes : Settings) (unread : ℕ) → unread ≤ MOST_TO_ACCEPT_MARKED → nat_le unread (most_unread modes) ≡ true
 always modes unread few = elim (cases_Bool (has_flag modes PARMRK)) [
-  | inl on ↦ ap (λ b. nat_le unread (cond b 4092 4094)) on ∙ le-leb unread 4092 few
-  | inr off ↦ ap (λ b. nat_le unread (cond b 4092 4094)) off ∙ le-leb unread 4094 (omega arith)
+  | inl on ↦ ap (λ b. nat_le unread (cond b MOST_TO_ACCEPT_MARKED MOST_TO_ACCEPT)) on
+      ∙ le-leb unread MOST_TO_ACCEPT_MARKED few
+  | inr off ↦ ap (λ b. nat_le unread (cond b MOST_TO_ACCEPT_MARKED MOST_TO_ACCEPT)) off
+      ∙ le-leb unread MOST_TO_ACCEPT (omega arith)
 ]
 
 accepts_in_run : (modes : Settings) (n : ℕ) (port : OnPort)
@@ -53,7 +56,7 @@ accepts_in_run : (modes : Settings) (n : ℕ) (port : OnPort)
 accepts_in_run modes n port may =
     let free : Bool = has_flag modes ICANON && not (has_piece port.tty) in
     ap (λ b. b && (nat_le (unread_count port.tty) (most_unread modes) || free))
-    (lt-ltb (end_count port.tty.items) 4096 may.ends)
+    (lt-ltb (end_count port.tty.items) MOST_ENDS may.ends)
     ∙ ap (λ b. b || free) (always modes (unread_count port.tty) (omega (arith, may.room)))
 
 -- a run by one character and the next
@@ -141,11 +144,12 @@ module _ (modes : Settings) (now : ℕ) (canonical : has_flag modes ICANON ≡ t
     (plain : (byte : ℕ) → 32 ≤ byte → byte ≤ 126 → IsPlain modes byte) (free : has_flag modes IXOFF ≡ false) where
   joined : (b : ℕ) (port : OnPort)
       → b ≤ 126
-      → length port.tty.edit < 4095
+      → length port.tty.edit < MOST_LINE
       → record port { tty = with_line_bytes now (b ∷ []) port.tty }
       ≡ after_store modes now (ordinary_bytes modes b) port
   joined b port high short =
-      let room : nat_le (length port.tty.edit + 1) 4095 ≡ true = le-leb (length port.tty.edit + 1) 4095 (omega arith) in
+      let room : nat_le (length port.tty.edit + 1) MOST_LINE ≡ true =
+      le-leb (length port.tty.edit + 1) MOST_LINE (omega arith) in
       let unmarked : ordinary_bytes modes b ≡ b ∷ [] =
       cond-false _ _ _
       (ap (λ t. has_flag modes PARMRK && not (has_flag modes ISTRIP) && t) (ne_eqb b 255 (λ e. omega (arith, high)))
@@ -176,8 +180,8 @@ module _ (modes : Settings) (now : ℕ) (canonical : has_flag modes ICANON ≡ t
   joined_one c n port typed may =
       let b : ℕ = c.byte in
       let tty : NTtyState = port.tty in
-      let short : length tty.edit < 4095 = omega (arith, may.room) in
-      let room : nat_le (length tty.edit + 1) 4095 ≡ true = le-leb (length tty.edit + 1) 4095 (omega arith) in
+      let short : length tty.edit < MOST_LINE = omega (arith, may.room) in
+      let room : nat_le (length tty.edit + 1) MOST_LINE ≡ true = le-leb (length tty.edit + 1) MOST_LINE (omega arith) in
       let line : tty.edit ++ b ∷ [] ≡ after_change tty.edit (AddBytes (b ∷ [])) = sym (cond-true _ _ _ room) in
       let ordinary : after_joined now (b ∷ []) port ≡ after_ordinary modes now b port =
       ap (λ edit.
@@ -232,14 +236,14 @@ module _ (modes : Settings) (now : ℕ) (canonical : has_flag modes ICANON ≡ t
   echoed : (b : ℕ) (port : OnPort)
       → 32 ≤ b
       → b ≤ 126
-      → length port.tty.edit < 4095
+      → length port.tty.edit < MOST_LINE
       → is_halted port.output ≡ false
       → after_typed now (b ∷ []) port
       ≡ with_echo modes (event.Plain b) (record port { tty = with_line_bytes now (b ∷ []) port.tty })
   echoed b port low high short flows =
       let tty : NTtyState = port.tty in
       let output : Output = port.output in
-      let room : nat_le (length tty.edit + 1) 4095 ≡ true = le-leb (length tty.edit + 1) 4095 (omega arith) in
+      let room : nat_le (length tty.edit + 1) MOST_LINE ≡ true = le-leb (length tty.edit + 1) MOST_LINE (omega arith) in
       let line : tty.edit ++ b ∷ [] ≡ after_change tty.edit (AddBytes (b ∷ [])) = sym (cond-true _ _ _ room) in
       let fits : has_room output (b ∷ []) ≡ true = ap (λ h. not h || nat_le 1 (room_of output)) flows in
       let sent : on_wire output (b ∷ []) ≡ after_try output (b ∷ []) =
@@ -259,7 +263,7 @@ module _ (modes : Settings) (now : ℕ) (canonical : has_flag modes ICANON ≡ t
       → after_typed now (c.byte ∷ []) port ≡ after_character modes now c port
   typed_one c n port typed may =
       let b : ℕ = c.byte in
-      let short : length port.tty.edit < 4095 = omega (arith, may.may.room) in
+      let short : length port.tty.edit < MOST_LINE = omega (arith, may.may.room) in
       let ordinary : after_typed now (b ∷ []) port ≡ after_ordinary modes now b port =
       echoed b port typed.low typed.high short may.flows
       ∙ ap (with_echo modes (event.Plain b)) (joined modes now canonical plain free b port typed.high short) in

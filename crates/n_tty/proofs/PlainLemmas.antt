@@ -13,7 +13,7 @@ use Rattle.n_tty.specs.Storing.{after_store, with_plain_bytes}
 use Rattle.n_tty.specs.Roles.{is_character, is_extended, signal_of, mapped_byte, role_of, is_raw, IsPlain}
 use Rattle.n_tty.specs.Receiving.{after_good, after_unquoted, after_unsteered, after_mapped, after_role}
 use Rattle.n_tty.specs.Receiving.{after_ordinary, after_resume_where, ordinary_bytes, stripped_byte, with_ixoff_rule}
-use Rattle.n_tty.specs.Flow.{must_stop, may_start}
+use Rattle.n_tty.specs.Flow.{HIGH_WATER, LOW_WATER, must_stop, may_start}
 use Rattle.n_tty.proofs.EchoLemmas.{unechoed, either_way, never_both}
 
 -- ---- printed bytes
@@ -176,8 +176,9 @@ pub rule_idle : (modes : Settings) (port : OnPort)
 rule_idle modes port free quiet =
     let unread : ℕ = unread_count port.tty in
     let stop : must_stop modes unread (has_piece port.tty) port.output ≡ false =
-    ap (λ t. t && not port.output.noted && nat_lt 3968 unread && (not (has_flag modes ICANON) || has_piece port.tty))
+    ap (λ t.
+    t && not port.output.noted && nat_lt HIGH_WATER unread && (not (has_flag modes ICANON) || has_piece port.tty))
     free in
     let start : may_start modes unread port.output ≡ false =
-    ap (λ t. t && (nat_le unread 128 || not (has_flag modes IXOFF))) quiet in
+    ap (λ t. t && (nat_le unread LOW_WATER || not (has_flag modes IXOFF))) quiet in
     sym (ap (λ output. record port { output = output }) (cond-false _ _ _ stop ∙ cond-false _ _ _ start))

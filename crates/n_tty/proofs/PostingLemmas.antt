@@ -1,5 +1,5 @@
 -- Texts that are posted one after the other.
-use Rattle.std.proofs.Common.{◌≡◌, ℕ, ◌+◌, ◌-◌, ◌*◌, ◌≤◌, Bool, true, false, cond, List, [], ◌∷◌, ◌++◌, length, ap}
+use Rattle.std.proofs.Common.{◌≡◌, ℕ, ◌+◌, ◌-◌, ◌*◌, ◌≤◌, true, false, cond, List, [], ◌∷◌, ◌++◌, length, ap}
 use Rattle.std.proofs.Common.{sym, ◌∙◌, refl, inl, inr, arith, length-append, append-nil, append_assoc, not, ◌||◌}
 use Rattle.std.proofs.Common.{nat_le, ◌<◌, get_or, drop}
 use Rattle.std.proofs.lemmas.Bool.{cases_Bool, cond-true, cond-false, leb-true, le-leb}
@@ -13,10 +13,6 @@ use Rattle.opost_out.specs.Column.{PostedByte, column_after_byte, column_after, 
 use Rattle.opost_out.specs.Posted.{posted_bytes}
 use Rattle.flow_control.specs.Output.{Output, is_halted, has_room, after_send, after_try, on_wire, room_of}
 use Rattle.n_tty.specs.Posting.{column_past_text, column_after_try, all_posted_bytes, tally_after_try}
-
-abbrev output_with : (wire : List ℕ) (spare : ℕ) (held : List ℕ) (stopped off noted : Bool) → Output
-output_with wire spare held stopped off noted =
-    record { wire = wire; spare = spare; held = held; stopped = stopped; off = off; noted = noted }
 
 abbrev held_by : Output → List ℕ → Output
 held_by output bytes = record output { held = output.held ++ bytes }

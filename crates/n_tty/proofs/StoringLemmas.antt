@@ -1,6 +1,7 @@
 -- Bytes that are stored, and the ends of pieces.
 use Rattle.std.proofs.Common.{◌≡◌, ℕ, ◌+◌, ◌<◌, cond, List, [], ◌∷◌, ◌++◌}
 use Rattle.std.proofs.Common.{length, map, ap, ◌∙◌, arith, length-append, le-leb}
+use Rattle.tty_base.specs.Sizes.{MOST_LINE}
 use Rattle.n_tty_edit.specs.Line.{AddBytes, after_change}
 use Rattle.line_store.specs.Unread.{Item, Byte, bytes_of, end_count}
 use Rattle.line_store.proofs.ItemLemmas.{bytes_of-append, bytes_of-plain, end_count-append, end_count-plain}
@@ -35,8 +36,8 @@ length-bytes_of-piece items line tail =
 
 -- a byte joins a line that has room for it
 pub length-joined : (line : List ℕ) (b : ℕ)
-    → length line < 4095
+    → length line < MOST_LINE
     → length (after_change line (AddBytes (b ∷ []))) ≡ length line + 1
 length-joined line b room =
-    ap (λ t. length (cond t (line ++ b ∷ []) line)) (le-leb (length line + length (b ∷ [])) 4095 (omega arith))
+    ap (λ t. length (cond t (line ++ b ∷ []) line)) (le-leb (length line + length (b ∷ [])) MOST_LINE (omega arith))
     ∙ length-append line (b ∷ [])

@@ -1,6 +1,7 @@
 -- Reserved room makes no difference to N_TTY on a port.
 use Rattle.std.proofs.Common.{◌≡◌, ℕ, suc, ◌+◌, Bool, true, false, if◌then◌else◌, not, ◌&&◌, ◌==◌, nat_le}
 use Rattle.std.proofs.Common.{Option, None, Some, List, [], ◌∷◌, length, take, ap, sym, ◌∙◌, refl}
+use Rattle.tty_base.specs.Sizes.{MOST_LINE}
 use Rattle.tty_base.specs.declared.characters.Flag.{Flag}
 use Rattle.tty_base.specs.declared.characters.Flag.TheVariants as flag
 use Rattle.tty_base.specs.declared.characters.Flagged.{Flagged}
@@ -63,7 +64,7 @@ after_store-room : (modes : Settings) (now : ℕ) (bytes : List ℕ)
     → PortIgnoresRoom (λ (port : OnPort). after_store modes now bytes port)
 after_store-room modes now bytes port =
     port_if (has_flag modes ICANON) _ _ _ _
-    (port_if (nat_le (length port.tty.edit + length bytes) 4095) _ _ _ _ refl refl) refl
+    (port_if (nat_le (length port.tty.edit + length bytes) MOST_LINE) _ _ _ _ refl refl) refl
 
 after_signal-room : (modes : Settings) (signal : Signal)
     → PortIgnoresRoom (λ (port : OnPort). after_signal modes signal port)

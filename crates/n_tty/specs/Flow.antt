@@ -36,15 +36,22 @@ with_start_sent modes output =
     then record output { noted = false }
     else record (on_wire output (character modes VSTART ∷ [])) { noted = false }
 
+-- from how many unread bytes on input fills, and down to how many the sender waits
+abbrev pub HIGH_WATER : ℕ
+HIGH_WATER = 3968
+
+abbrev pub LOW_WATER : ℕ
+LOW_WATER = 128
+
 -- Input fills, and the sender was not yet told to stop. In canonical mode it is told only where a piece is complete,
 -- since otherwise nobody could make room.
 abbrev pub must_stop : Settings → (unread : ℕ) → (complete : Bool) → Output → Bool
 must_stop modes unread complete output =
-    has_flag modes IXOFF && not output.noted && nat_lt 3968 unread && (not (has_flag modes ICANON) || complete)
+    has_flag modes IXOFF && not output.noted && nat_lt HIGH_WATER unread && (not (has_flag modes ICANON) || complete)
 
 -- a sender that was told to stop may go on
 abbrev pub may_start : Settings → (unread : ℕ) → Output → Bool
-may_start modes unread output = output.noted && (nat_le unread 128 || not (has_flag modes IXOFF))
+may_start modes unread output = output.noted && (nat_le unread LOW_WATER || not (has_flag modes IXOFF))
 
 -- the rule for ixoff, with so many bytes unread, and whether a piece is complete
 abbrev pub after_ixoff_rule : Settings → (unread : ℕ) → (complete : Bool) → Output → Output

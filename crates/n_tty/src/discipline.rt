@@ -1,8 +1,9 @@
 //! N_TTY as a value: what it receives, what a read takes and a write posts, and what new modes and a flush do to it.
 
 ghost use Rattle.std.specs.Prelude.{◌≡◌, ◌+◌, ◌-◌, ◌*◌, ◌%◌, ◌<◌, ◌≤◌, ◌^◌, IfOk, true, not, ◌&&◌};
-ghost use Rattle.std.specs.Prelude.{◌||◌, ◌++◌, length, take, nat_le, nat_lt, if◌then◌else◌};
-ghost use Rattle.tty_base.specs.Sizes.{COUNT_END, MOST_HELD, MOST_UNREAD};
+ghost use Rattle.std.specs.Prelude.{◌||◌, ◌++◌, length, take, nat_le, nat_lt};
+ghost use Rattle.tty_base.specs.Sizes.{COLUMNS_OF_CHARACTER, COLUMNS_OF_PIECE, COUNT_END, MOST_HELD, MOST_POSTED};
+ghost use Rattle.tty_base.specs.Sizes.{MOST_UNREAD, PIECE};
 ghost use Rattle.tty_modes.specs.Settings.{has_flag};
 ghost use Rattle.tty_modes.specs.declared.places.TheConstants.{ICANON};
 ghost use Rattle.line_store.specs.Unread.{end_count};
@@ -12,7 +13,6 @@ ghost use Rattle.n_tty.specs.States.{most_unread, unread_count, has_piece, FitsM
 ghost use Rattle.n_tty.specs.Storing.{without_input, after_recast};
 ghost use Rattle.n_tty.specs.Flow.{after_ixoff_rule};
 ghost use Rattle.n_tty.specs.Receiving.{after_character};
-ghost use Rattle.n_tty.specs.Roles.{mapped_byte, role_of};
 ghost use Rattle.n_tty.specs.Reading.{bytes_read, after_read, is_readable, ready_count};
 ghost use Rattle.n_tty.specs.Spending.{pending_count};
 ghost use Rattle.n_tty.specs.Writing.{piece_size, piece_text, after_write};
@@ -127,7 +127,7 @@ impl NTty {
         ensures spent { wire.old.spare + pending_count self.new wire.new
             ≤ wire.new.spare + (pending_count self.old wire.old + CHARACTER_ROOM) }
         ensures signals { tally.old.signals.spare ≤ tally.new.signals.spare + 1 }
-        ensures moved { self.new.column ≤ self.old.column + 2 ^ 22 }
+        ensures moved { self.new.column ≤ self.old.column + COLUMNS_OF_CHARACTER }
         ensures past { self.old.last ≤ now → self.new.last ≤ now }
     {
         prove!(self.edit.bytes().len() <= MOST_LINE);
@@ -187,19 +187,19 @@ impl NTty {
         }
     }
 
-    /// Posts bytes of a write, in order, at most 64: up to the first whose posted bytes do not fit in what
+    /// Posts bytes of a write, in order, at most a piece: up to the first whose posted bytes do not fit in what
     /// can be held under a halt. Answers how many it took.
     pub fn write_piece(&mut self, bytes: &[u8], modes: &Modes, wire: &mut Wire) -> usize
         requires fitting { FitsModes modes.now self.old }
-        requires room { 512 ≤ wire.old.spare }
+        requires room { MOST_POSTED ≤ wire.old.spare }
         requires column { self.old.column < COUNT_END }
         ensures count { result ≡ piece_size modes.now self.old wire.old bytes.now }
         ensures wire { wire.new ≡ after_send wire.old (piece_text modes.now self.old wire.old bytes.now) }
         ensures after { self.new ≡ after_write modes.now wire.old bytes.now self.old }
         ensures fits { FitsModes modes.now self.new }
         ensures few { result ≤ PIECE }
-        ensures spent { wire.old.spare ≤ wire.new.spare + 512 }
-        ensures moved { self.new.column ≤ self.old.column + 64 * PIECE }
+        ensures spent { wire.old.spare ≤ wire.new.spare + MOST_POSTED }
+        ensures moved { self.new.column ≤ self.old.column + COLUMNS_OF_PIECE }
     {
         post_fitting(&mut self.out, piece_of(bytes), modes, wire)
     }

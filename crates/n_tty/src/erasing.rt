@@ -1,6 +1,6 @@
 //! The echo of bytes that WERASE and KILL erase.
 
-ghost use Rattle.std.specs.Prelude.{◌≡◌, ◌*◌, ◌<◌, ◌≤◌, ◌^◌, ◌⊎◌, true, length, take, drop};
+ghost use Rattle.std.specs.Prelude.{◌≡◌, ◌*◌, ◌<◌, ◌≤◌, ◌⊎◌, true, length, take, drop};
 ghost use Rattle.tty_base.specs.Sizes.{COUNT_END, MOST_LINE};
 ghost use Rattle.flow_control.specs.Output.{has_room, after_send, after_try};
 ghost use Rattle.n_tty.specs.Editing.{echo_of_gone};

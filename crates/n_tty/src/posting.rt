@@ -2,8 +2,7 @@
 
 ghost use Rattle.std.specs.Prelude.{◌≡◌, ◌+◌, ◌*◌, ◌<◌, ◌≤◌, ◌^◌, ℕ, List, [], ◌∷◌, true};
 ghost use Rattle.std.specs.Prelude.{length, if◌then◌else◌, nat_lt, slice_index, take, drop};
-ghost use Rattle.tty_base.specs.Sizes.{COUNT_END, PIECE};
-ghost use Rattle.opost_out.specs.Posted.{posted_bytes};
+ghost use Rattle.tty_base.specs.Sizes.{COLUMNS_OF_BYTE, COUNT_END, MOST_POSTED, PIECE};
 ghost use Rattle.flow_control.specs.Output.{has_room, after_send, after_try};
 ghost use Rattle.n_tty.specs.Posting.{column_past_text, column_after_try, all_posted_bytes, tally_after_try};
 ghost use Rattle.n_tty.specs.Writing.{fitting_count};
@@ -33,7 +32,7 @@ pub fn post(out: &mut Out, bytes: &[u8], modes: &Modes, wire: &mut Wire)
 pub fn post_fitting(out: &mut Out, bytes: &[u8], modes: &Modes, wire: &mut Wire) -> usize
     requires column { out.old < COUNT_END + 2 ^ 32 }
     requires short { length bytes.now ≤ PIECE }
-    requires spare { 512 ≤ wire.old.spare }
+    requires spare { MOST_POSTED ≤ wire.old.spare }
     ensures count { result ≡ fitting_count modes.now out.old wire.old bytes.now }
     ensures column { out.new
         ≡ column_past_text modes.now out.old (all_posted_bytes modes.now out.old (take result bytes.now)) }
@@ -68,7 +67,7 @@ fn post_run(out: &mut Out, bytes: &[u8], modes: &Modes, wire: &mut Wire) -> usiz
     ensures wire { 0 < result
         → wire.new ≡ after_send wire.old (all_posted_bytes modes.now out.old (take result bytes.now)) }
     ensures spent { wire.old.spare ≤ wire.new.spare + 8 * result }
-    ensures moved { out.new ≤ out.old + 64 * result }
+    ensures moved { out.new ≤ out.old + COLUMNS_OF_BYTE * result }
 {
     let plain = plain_len(bytes);
     if plain > 0 && has_room(plain, wire) {

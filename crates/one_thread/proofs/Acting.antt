@@ -20,17 +20,18 @@ use Rattle.tty_terminal.specs.Meeting.{drops_of}
 use Rattle.tty_terminal.specs.Marks.{Marks, marks_of}
 use Rattle.tty_terminal.specs.Standing.{Standing, standing_after_own, standing_after_other}
 use Rattle.tty_terminal.proofs.BeginLaws.{step_generation}
-use Rattle.journal_check.specs.Legal.{IsInPhase, IsCallOf, IsCallerOf, first_step, session_events}
+use Rattle.legal_runs.specs.Legal.{IsInPhase, IsCallOf, IsCallerOf, first_step, session_events}
 use Rattle.port_core.specs.Flips.{DropsShown}
 use Rattle.port_core.specs.Attempts.{PlainTried, done_by, took_part, must_wait}
 use Rattle.port_core.specs.Attempts.{AnswersCall, TakesPartOf, MustGoOnWaiting, Attempts}
 use Rattle.port_core.specs.Ports.{PlainKept, PortValue, kept_with, with_call, Appends, caller_entry, end_entry}
-use Rattle.one_thread.specs.Order.{IsPieceOf, turn_after_event}
-use Rattle.one_thread.specs.Roles.{Scene, calls_in, role_in, AreRolesOf}
-use Rattle.one_thread.specs.Stages.{place_of, HasAnyOrder}
+use Rattle.one_order.specs.Order.{IsPieceOf, turn_after_event}
+use Rattle.play_base.specs.Roles.{Scene, calls_in, role_in, AreRolesOf}
+use Rattle.play_base.specs.Scenes.{place_of, HasAnyOrder}
 use Rattle.one_thread.specs.Turns.{role_numbers, turn_with, who_of, IsPossible, standing_at, standing_at_rest, IsInRole}
-use Rattle.one_thread.specs.Turns.{IsKept, IsInParts, IsGoing, HasCallers, next_run, PlaysIn, TakesTurn, going_after}
-use Rattle.one_thread.specs.declared.roles.Role.{Role}
+use Rattle.one_thread.specs.Turns.{IsKeptCall, IsInParts, IsGoing, HasCallers, next_run, PlaysIn, TakesTurn}
+use Rattle.one_thread.specs.Turns.{going_after}
+use Rattle.play_base.specs.declared.roles.Role.{Role}
 use Rattle.one_thread.specs.declared.after_line.Stand.{Stand}
 use Rattle.one_thread.specs.declared.after_line.Turn.TheVariants as turn
 use Rattle.one_thread.proofs.Entries.{IsMore, more_of, plays_more}
@@ -38,7 +39,7 @@ use Rattle.one_thread.proofs.Passing.{runs_rest, stands_at, marks_at}
 use Rattle.one_thread.proofs.Kept.{kept_still, kept_own, kept_grows}
 use Rattle.one_thread.proofs.Calling.{role_of, role_number, same_place, MayAct}
 use Rattle.one_thread.proofs.Calling.{may_act, called, wait_test, part_generation}
-use Rattle.journal_check.proofs.Truths.{if_false, if_true}
+use Rattle.legal_runs.proofs.Truths.{if_false, if_true}
 
 -- ---- callers after an entry of one of them
 
@@ -48,8 +49,8 @@ record Acts (s : Scene) (scripts : List Script) (roles : List Role) (v w : PortV
   phase : w.terminal.phase ≡ v.terminal.phase
   same : (d : ℕ) → (r.number == d) ≡ false → standing_at w d ≡ standing_at v d
   in_role : IsInRole r.first (length (calls_in (slice_get scripts r.place))) (standing_at w r.number)
-  kept : (d n : ℕ) → IsKept v.kept d n → IsKept w.kept d n
-  own_kept : (standing_at w r.number).begun ≡ true → IsKept w.kept r.number (standing_at w r.number).next
+  kept : (d n : ℕ) → IsKeptCall v.kept d n → IsKeptCall w.kept d n
+  own_kept : (standing_at w r.number).begun ≡ true → IsKeptCall w.kept r.number (standing_at w r.number).next
   goes_on : (i : ℕ) → going ≡ Some i → (i < length roles) × IsInParts w (slice_index (role_numbers roles) i)
   own_parts : (standing_at w r.number).waits ≡ false
       → 0 < (standing_at w r.number).parts
@@ -87,15 +88,15 @@ callers_act s scripts roles v w stand place r going callers is may acts =
           (λ other. subst (λ (x : Standing). IsInRole q.first (length (calls_in (slice_get scripts q.place))) x)
           (sym (acts.same q.number other)) (callers.in_roles i q at));
       kept = λ d begun.
-          by_caller r.number d (IsKept w.kept d (standing_at w d).next)
+          by_caller r.number d (IsKeptCall w.kept d (standing_at w d).next)
           (λ own.
-          let Fact : ℕ → Type 0 = λ x. (standing_at w x).begun ≡ true → IsKept w.kept x (standing_at w x).next in
+          let Fact : ℕ → Type 0 = λ x. (standing_at w x).begun ≡ true → IsKeptCall w.kept x (standing_at w x).next in
           subst Fact (eqb-true r.number d own) acts.own_kept begun)
           (λ other.
           let same = acts.same d other in
           let old = callers.kept d (sym (ap (λ (q : Standing). q.begun) same) ∙ begun) in
           acts.kept d (standing_at w d).next
-          (subst (λ (n : ℕ). IsKept v.kept d n) (sym (ap (λ (q : Standing). q.next) same)) old));
+          (subst (λ (n : ℕ). IsKeptCall v.kept d n) (sym (ap (λ (q : Standing). q.next) same)) old));
       others = λ d absent.
           by_caller r.number d (standing_at w d ≡ standing_at_rest (first_step s.port s.session w.terminal.phase d))
           (λ own. absurd (absent place r is (eqb-true r.number d own)))
@@ -237,18 +238,18 @@ call_more s scripts roles v w stand place r call flip e h appends capacity ring 
 kept_then : (v w : PortValue) (c : ℕ) (call : PlainCall) (flip : TakerState Flagged) (e : PlainEntry)
     → Appends (with_call v c (caller_at v.terminal c).next call) w flip e
     → (d n : ℕ)
-    → IsKept v.kept d n
-    → IsKept w.kept d n
+    → IsKeptCall v.kept d n
+    → IsKeptCall w.kept d n
 kept_then v w c call flip e appends d n h =
-    subst (λ (ks : List PlainKept). IsKept ks d n) (sym (ap (λ (x : PortValue). x.kept) appends.appended))
+    subst (λ (ks : List PlainKept). IsKeptCall ks d n) (sym (ap (λ (x : PortValue). x.kept) appends.appended))
     (kept_still (has_begun (caller_at v.terminal c)) v.kept c (caller_at v.terminal c).next call d n h)
 
 pub own_kept_then : (v w : PortValue) (c : ℕ) (call : PlainCall) (flip : TakerState Flagged) (e : PlainEntry)
     → Appends (with_call v c (caller_at v.terminal c).next call) w flip e
-    → ((standing_at v c).begun ≡ true → IsKept v.kept c (standing_at v c).next)
-    → IsKept w.kept c (standing_at v c).next
+    → ((standing_at v c).begun ≡ true → IsKeptCall v.kept c (standing_at v c).next)
+    → IsKeptCall w.kept c (standing_at v c).next
 own_kept_then v w c call flip e appends h =
-    subst (λ (ks : List PlainKept). IsKept ks c (caller_at v.terminal c).next)
+    subst (λ (ks : List PlainKept). IsKeptCall ks c (caller_at v.terminal c).next)
     (sym (ap (λ (x : PortValue). x.kept) appends.appended))
     (kept_own (has_begun (caller_at v.terminal c)) v.kept c (caller_at v.terminal c).next call h)
 
@@ -385,7 +386,7 @@ parted_more s scripts roles v w stand place r call h a =
       same = λ d other. other_stands s v w e c d more refl other;
       in_role = subst (λ (x : Standing). IsInRole r.first count x) (sym own) then_in_role;
       kept = kept_then v w c call v.flip e a.appends;
-      own_kept = λ b. subst (λ (n : ℕ). IsKept w.kept c n) (sym (ap (λ (x : Standing). x.next) own))
+      own_kept = λ b. subst (λ (n : ℕ). IsKeptCall w.kept c n) (sym (ap (λ (x : Standing). x.next) own))
           (own_kept_then v w c call v.flip e a.appends (h.turns.plays.callers.kept c));
       goes_on = λ i is.
           let same : place ≡ i = same_Some place i is in
@@ -439,7 +440,7 @@ waited_more s scripts roles v w stand place r call h appends =
       same = λ d other. other_stands s v w e c d more refl other;
       in_role = subst (λ (x : Standing). IsInRole r.first count x) (sym own) then_in_role;
       kept = kept_then v w c call v.flip e appends;
-      own_kept = λ b. subst (λ (n : ℕ). IsKept w.kept c n) (sym (ap (λ (x : Standing). x.next) own))
+      own_kept = λ b. subst (λ (n : ℕ). IsKeptCall w.kept c n) (sym (ap (λ (x : Standing). x.next) own))
           (own_kept_then v w c call v.flip e appends (h.turns.plays.callers.kept c));
       goes_on = λ i none. absurd (cc);
       own_parts = λ waits some. absurd (false≢true (sym waits ∙ ap (λ (x : Standing). x.waits) own));
@@ -524,7 +525,7 @@ ended_more s scripts roles v w stand place r h between all appends =
       phase = ap (λ (m : Marks). m.phase) (marks_at s v w e more);
       same = λ d other. other_stands s v w e c d more refl other;
       in_role = subst (λ (x : Standing). IsInRole r.first count x) (sym own) then_in_role;
-      kept = λ d n k. subst (λ (ks : List PlainKept). IsKept ks d n) (sym kept_same) k;
+      kept = λ d n k. subst (λ (ks : List PlainKept). IsKeptCall ks d n) (sym kept_same) k;
       own_kept = λ b. absurd (false≢true (sym between ∙ (sym (ap (λ (x : Standing). x.begun) own) ∙ b)));
       goes_on = λ i none. absurd (cc);
       own_parts = λ waits some.

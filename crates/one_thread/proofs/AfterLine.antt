@@ -23,32 +23,32 @@ use Rattle.tty_terminal.specs.Marks.{Marks}
 use Rattle.tty_terminal.specs.Standing.{Standing, standing_of}
 use Rattle.tty_terminal.proofs.Grown.{leads_grown}
 use Rattle.tty_terminal.proofs.Runs.{leads_more}
-use Rattle.journal_check.specs.Legal.{phase_at, name_at, has_script, first_step, steps_in}
-use Rattle.journal_check.specs.Legal.{IsCallerOf, session_events, session_events_in}
-use Rattle.journal_check.specs.Phases.{HasPlayed}
+use Rattle.legal_runs.specs.Legal.{phase_at, name_at, has_script, first_step, steps_in, IsCallerOf, session_events}
+use Rattle.legal_runs.specs.Legal.{session_events_in}
+use Rattle.legal_runs.specs.Phases.{HasPlayed}
 use Rattle.port_core.specs.Flips.{after_meeting}
 use Rattle.port_core.specs.Phases.{EndsPhase}
 use Rattle.port_core.specs.Ports.{PortValue, IsPort, call_in, Denies, phase_entry}
-use Rattle.one_thread.specs.Order.{first_place, AreInTurn, IsInTurn, is_waiting, must_wait, is_of_consoles}
-use Rattle.one_thread.specs.Roles.{Scene, calls_in, role_in, AreRolesOf}
-use Rattle.one_thread.specs.Stages.{place_of, HasAnyOrder, HasOneOrder, IsOfSceneIn, AreAtFirst}
-use Rattle.one_thread.specs.Stages.{BeginsRun, IsAfterLineIn, EndsAfterLineIn, StopsAfterLine}
+use Rattle.one_order.specs.Order.{first_place, AreInTurn, IsInTurn, is_waiting, must_wait, is_of_consoles}
+use Rattle.play_base.specs.Roles.{Scene, calls_in, role_in, AreRolesOf}
+use Rattle.play_base.specs.Scenes.{place_of, HasAnyOrder, HasOneOrder, IsOfSceneIn, AreAtFirst, BeginsRun}
+use Rattle.one_thread.specs.Stages.{IsAfterLineIn, EndsAfterLineIn, StopsAfterLine}
 use Rattle.one_thread.specs.Acts.{PlayingIn, Playing, PlaysEnd}
 use Rattle.one_thread.specs.Turns.{role_numbers, IsTurn, IsPossible, NoneIs, NothingGoesOn}
 use Rattle.one_thread.specs.Turns.{standing_at, standing_at_rest, IsAtRest, IsInRole, IsAbsent}
 use Rattle.one_thread.specs.Turns.{HasCallers, next_run, HasRuns, PlaysIn, Plays, PlaysOnIn}
-use Rattle.one_thread.specs.declared.roles.Role.{Role}
+use Rattle.play_base.specs.declared.roles.Role.{Role}
 use Rattle.one_thread.specs.declared.after_line.Stand.{Stand}
 use Rattle.one_thread.specs.declared.after_line.Turn.TheVariants as turn
-use Rattle.one_thread.proofs.Places.{turns_more}
+use Rattle.one_order.proofs.Places.{turns_more}
 use Rattle.one_thread.proofs.Possible.{end_view, by_rank}
 use Rattle.one_thread.proofs.Entries.{more_of, IsRunOf, scene_more, by_turn, numbers_same}
-use Rattle.one_thread.proofs.Orders.{scene_in}
+use Rattle.play_base.proofs.OrderLemmas.{scene_in}
 use Rattle.one_thread.proofs.Passing.{runs_rest, stands_at, marks_at}
 use Rattle.one_thread.proofs.Calling.{role_of, role_number, enough}
 use Rattle.one_thread.proofs.Starting.{no_steps, at_rest}
-use Rattle.journal_check.proofs.NameLemmas.{first_next}
-use Rattle.journal_check.proofs.Truths.{all_four}
+use Rattle.legal_runs.proofs.NameLemmas.{first_next}
+use Rattle.legal_runs.proofs.Truths.{all_four}
 
 -- ---- the beginning
 

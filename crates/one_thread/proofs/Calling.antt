@@ -17,17 +17,17 @@ use Rattle.tty_terminal.specs.Steps.{callers_in, quiet, nothing_to_flush, is_wai
 use Rattle.tty_terminal.proofs.Effects.{outcome_keeps}
 use Rattle.tty_terminal.proofs.WaitLaws.{run_waits, run_parts}
 use Rattle.port_core.specs.Ports.{PortValue, call_in}
-use Rattle.one_thread.specs.Order.{can_go_on, is_waiting, must_wait}
-use Rattle.one_thread.specs.Roles.{Scene, calls_in, role_in, IsRoleOf, AreRolesOf}
+use Rattle.one_order.specs.Order.{can_go_on, is_waiting, must_wait}
+use Rattle.play_base.specs.Roles.{Scene, calls_in, role_in, IsRoleOf, AreRolesOf}
 use Rattle.one_thread.specs.Turns.{role_numbers, NothingGoesOn, IsPossible, standing_at, IsInParts, IsGoing, PlaysIn}
-use Rattle.one_thread.specs.declared.roles.Role.{Role}
+use Rattle.play_base.specs.declared.roles.Role.{Role}
 use Rattle.one_thread.specs.declared.after_line.Stand.{Stand}
 use Rattle.one_thread.specs.declared.after_line.Turn.TheVariants as turn
 use Rattle.one_thread.proofs.Ranks.{number_at}
 use Rattle.one_thread.proofs.Possible.{call_view}
 use Rattle.one_thread.proofs.Entries.{numbers_same, can_same}
 use Rattle.one_thread.proofs.Counting.{at_least}
-use Rattle.journal_check.proofs.Truths.{all_four}
+use Rattle.legal_runs.proofs.Truths.{all_four}
 
 -- ---- roles
 

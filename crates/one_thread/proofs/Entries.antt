@@ -13,22 +13,22 @@ use Rattle.tty_calls.specs.Sessions.{call_at, counts_on}
 use Rattle.tty_terminal.specs.Terminals.{Terminal, caller_at}
 use Rattle.tty_terminal.specs.Calls.{outcome_of}
 use Rattle.tty_terminal.specs.Steps.{Allowed, after, nothing_to_flush, is_wait}
-use Rattle.tty_terminal.specs.Runs.{IsRun, Grows}
+use Rattle.tty_terminal.specs.Runs.{IsRun, KnowsMore}
 use Rattle.tty_terminal.proofs.Grown.{after_grown}
 use Rattle.tty_terminal.proofs.Runs.{leads_more}
 use Rattle.tty_terminal.proofs.WaitLaws.{run_waits}
-use Rattle.journal_check.specs.Legal.{IsInPhase, AreInPhases, session_events, flip_on}
+use Rattle.legal_runs.specs.Legal.{IsInPhase, AreInPhases, session_events, flip_on}
 use Rattle.port_core.specs.Ports.{PlainKept, PortValue, call_in, Appends}
-use Rattle.one_thread.specs.Order.{Place, first_place, IsPieceOf, turn, turn_after, turn_after_event, turn_by_rank}
-use Rattle.one_thread.specs.Order.{callers_of, first_of, can_go_on, is_waiting, must_wait, is_of_consoles}
-use Rattle.one_thread.specs.Roles.{Scene, numbers_in, role_in}
-use Rattle.one_thread.specs.Stages.{place_of, HasAnyOrder, IsOfSceneIn}
-use Rattle.one_thread.specs.Turns.{role_numbers, turn_with, who_of, IsKept, HasCallers, HasRuns, PlaysIn, TakesTurn}
-use Rattle.one_thread.specs.declared.roles.Role.{Role}
+use Rattle.one_order.specs.Order.{Place, first_place, IsPieceOf, turn, turn_after, turn_after_event, turn_by_rank}
+use Rattle.one_order.specs.Order.{callers_of, first_of, can_go_on, is_waiting, must_wait, is_of_consoles}
+use Rattle.play_base.specs.Roles.{Scene, numbers_in, role_in}
+use Rattle.play_base.specs.Scenes.{place_of, HasAnyOrder, IsOfSceneIn}
+use Rattle.one_thread.specs.Turns.{role_numbers, turn_with, who_of, IsKeptCall, HasCallers, HasRuns, PlaysIn, TakesTurn}
+use Rattle.play_base.specs.declared.roles.Role.{Role}
 use Rattle.one_thread.specs.declared.after_line.Stand.{Stand}
 use Rattle.one_thread.specs.declared.after_line.Turn.{Turn}
 use Rattle.one_thread.proofs.Ranks.{first_same}
-use Rattle.one_thread.proofs.Places.{place_more, in_phases_more, leads_place, leads_phase}
+use Rattle.one_order.proofs.Places.{place_more, in_phases_more, leads_place, leads_phase}
 
 -- an entry more, of the session's calls
 pub record IsMore (s : Scene) (v w : PortValue) (e : PlainEntry) : Type 0 where
@@ -37,13 +37,13 @@ pub record IsMore (s : Scene) (v w : PortValue) (e : PlainEntry) : Type 0 where
   pub limit : w.limit ≡ v.limit
   pub capacity : w.flip.capacity ≡ v.flip.capacity
   pub ring : w.flip.ring ≡ v.flip.ring
-  pub known : Grows (call_in w.kept) (call_at s.port s.session)
+  pub known : KnowsMore (call_in w.kept) (call_at s.port s.session)
   pub allowed : Allowed (call_at s.port s.session) (counts_on s.port s.session) v.terminal e
   pub terminal : w.terminal ≡ after (call_at s.port s.session) v.terminal e
 
 pub more_of : (s : Scene) (v w : PortValue) (kept : List PlainKept) (flip : TakerState Flagged) (e : PlainEntry)
     → v.counts ≡ counts_on s.port s.session
-    → Grows (call_in kept) (call_at s.port s.session)
+    → KnowsMore (call_in kept) (call_at s.port s.session)
     → Appends (record v { kept = kept }) w flip e
     → flip.capacity ≡ v.flip.capacity
     → flip.ring ≡ v.flip.ring
@@ -56,7 +56,7 @@ more_of s v w kept flip e counts known appends capacity ring =
       limit = ap (λ (x : PortValue). x.limit) appends.appended;
       capacity = ap (λ (x : PortValue). x.flip.capacity) appends.appended ∙ capacity;
       ring = ap (λ (x : PortValue). x.flip.ring) appends.appended ∙ ring;
-      known = subst (λ (ks : List PlainKept). Grows (call_in ks) (call_at s.port s.session))
+      known = subst (λ (ks : List PlainKept). KnowsMore (call_in ks) (call_at s.port s.session))
           (sym (ap (λ (x : PortValue). x.kept) appends.appended)) known;
       allowed = subst (λ (cs : List ℕ). Allowed (call_at s.port s.session) cs v.terminal e) counts grown.0;
       terminal = ap (λ (x : PortValue). x.terminal) appends.appended ∙ sym grown.1;
@@ -121,8 +121,8 @@ can_case true over x y h = ap (λ (z : Bool). not over && (not true || not z)) (
 
 -- the call that waits is kept, and so the same in the session
 pub kept_is : (s : Scene) (v : PortValue) (c step : ℕ)
-    → Grows (call_in v.kept) (call_at s.port s.session)
-    → IsKept v.kept c step
+    → KnowsMore (call_in v.kept) (call_at s.port s.session)
+    → IsKeptCall v.kept c step
     → call_in v.kept c step ≡ call_at s.port s.session c step
 kept_is s v c step known kept = kept.found ∙ sym (known c step kept.call kept.found)
 

@@ -3,10 +3,10 @@ use Rattle.std.proofs.Common.{◌≡◌, ℕ, List, [], ◌∷◌, ◌++◌, Boo
 use Rattle.std.proofs.Common.{Option, None, Some, if◌then◌else◌, refl, sym, ◌∙◌, ap, inl, inr}
 use Rattle.std.proofs.lemmas.Bool.{eqb-true, eq-eqb, and_parts}
 use Rattle.tty_calls.specs.Plain.{PlainCall}
-use Rattle.tty_terminal.specs.Runs.{Grows}
+use Rattle.tty_terminal.specs.Runs.{KnowsMore}
 use Rattle.port_core.specs.Ports.{PlainKept, call_in, kept_with}
-use Rattle.one_thread.specs.Turns.{IsKept}
-use Rattle.journal_check.proofs.Truths.{if_false, if_true}
+use Rattle.one_thread.specs.Turns.{IsKeptCall}
+use Rattle.legal_runs.proofs.Truths.{if_false, if_true}
 
 some_same : (x y : PlainCall) → Some x ≡ Some y → x ≡ y
 some_same x y e = cc
@@ -75,16 +75,16 @@ own_found (k ∷ ks) c step call = own_case ((k.caller == c) && (k.step == step)
 -- ---- where a call is kept from its first attempt on
 
 pub kept_still : (begun : Bool) (ks : List PlainKept) (c step : ℕ) (call : PlainCall) (d n : ℕ)
-    → IsKept ks d n
-    → IsKept (kept_with begun ks c step call) d n
+    → IsKeptCall ks d n
+    → IsKeptCall (kept_with begun ks c step call) d n
 kept_still true ks c step call d n h = h
 kept_still false ks c step call d n h =
     let found = still_found ks (record { caller = c; step = step; call = call }) d n h.call h.found in
     record { call = found.0; found = found.1 }
 
 pub kept_own : (begun : Bool) (ks : List PlainKept) (c step : ℕ) (call : PlainCall)
-    → (begun ≡ true → IsKept ks c step)
-    → IsKept (kept_with begun ks c step call) c step
+    → (begun ≡ true → IsKeptCall ks c step)
+    → IsKeptCall (kept_with begun ks c step call) c step
 kept_own true ks c step call h = h refl
 kept_own false ks c step call h =
     let found = own_found ks c step call in
@@ -92,8 +92,8 @@ kept_own false ks c step call h =
 
 pub kept_grows : (begun : Bool) (ks : List PlainKept) (c step : ℕ) (call : PlainCall) (g : ℕ → ℕ → Option PlainCall)
     → g c step ≡ Some call
-    → Grows (call_in ks) g
-    → Grows (call_in (kept_with begun ks c step call)) g
+    → KnowsMore (call_in ks) g
+    → KnowsMore (call_in (kept_with begun ks c step call)) g
 kept_grows true ks c step call g is known d n x e = known d n x e
 kept_grows false ks c step call g is known d n x e =
     elim (push_found ks (record { caller = c; step = step; call = call }) d n x e) [

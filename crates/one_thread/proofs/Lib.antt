@@ -1,5 +1,4 @@
 pub mod Ranks
-pub mod Places
 pub mod Possible
 pub mod Entries
 pub mod Orders
@@ -12,7 +11,6 @@ pub mod Ready
 pub mod Trying
 pub mod Starting
 pub mod AfterLine
-pub mod OrderRows
 pub mod LineLists
 pub mod LineTurns
 pub mod LineSteps
@@ -21,11 +19,4 @@ pub mod LineEnds
 pub mod LineLoop
 pub mod LineWindows
 pub mod LineFlushes
-pub mod NameLemmas
-pub mod RoleLemmas
-pub mod CastLemmas
-pub mod JournalLemmas
-pub mod ReceivedLemmas
-pub mod PhaseLemmas
 pub mod StationLemmas
-pub mod PortLemmas

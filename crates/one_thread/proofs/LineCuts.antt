@@ -7,6 +7,7 @@ use mathlib.Core.List.{IsPrefix}
 use Rattle.std.proofs.lemmas.Bool.{cases_lt}
 use Rattle.std.proofs.lemmas.List.{append_cancel_left}
 use Rattle.std.proofs.lemmas.List.Elements.{All-nil, All-append, All-weaker}
+use Rattle.tty_base.specs.Sizes.{LEAST_FLIP, PIECE}
 use Rattle.tty_base.specs.declared.characters.Flagged.{Flagged}
 use Rattle.tty_base.specs.declared.lines.LineStep.{LineStep}
 use Rattle.tty_base.specs.declared.lines.Overrun.{Overrun}
@@ -14,29 +15,30 @@ use Rattle.word_ring.specs.Ends.{PutterState}
 use Rattle.word_ring.proofs.Beginnings.{begins_more, begins_through}
 use Rattle.uart_line.specs.LineState.{LineState}
 use Rattle.uart_line.specs.Received.{received_list}
-use Rattle.uart_line.specs.Offered.{accepted_list, overrun_list}
+use Rattle.uart_line.specs.Offered.{appended_list, overrun_list}
 use Rattle.tty_terminal.specs.Terminals.{Terminal}
 use Rattle.tty_terminal.specs.Receiving.{accepts, after_characters}
-use Rattle.journal_check.specs.Legal.{received_before}
+use Rattle.legal_runs.specs.Legal.{received_before}
 use Rattle.port_core.specs.declared.ports.flushing.Flushed.{Flushed}
 use Rattle.port_core.specs.declared.ports.flushing.Flushed.TheVariants.{Took, Nothing}
 use Rattle.port_core.specs.Flips.{MeetsTaker, after_meeting, shown_count}
 use Rattle.port_core.specs.Flushes.{Flushes, Takes, TakesNone, LooksAtNone}
 use Rattle.port_core.specs.Ports.{PortValue, IsPort, is_stuck, flush_entry}
-use Rattle.one_thread.specs.Order.{cuts_in, cuts_after, due, front_to_flush, IsInTurn}
-use Rattle.one_thread.specs.Stages.{BeginsRun, place_of}
-use Rattle.one_thread.specs.LineInside.{LineStart, steps_before, steps_of, IsInLine, KnowsTaken, SeesFrom}
-use Rattle.one_thread.specs.LineInside.{IsCaughtUp, IsBetweenSteps, run_after, with_all_pushed, FlushesCut}
-use Rattle.one_thread.proofs.LineLists.{true_or_false, handed_list, handed_is, handed_few}
-use Rattle.one_thread.proofs.LineLists.{no_cut, is_cut_here, cuts_same, cuts_more, cut_is_next}
-use Rattle.one_thread.proofs.LineLists.{loaded_since, knows_more, none_refused, refusals_see}
+use Rattle.one_order.specs.Order.{cuts_in, cuts_after, due, front_to_flush, IsInTurn}
+use Rattle.play_base.specs.Scenes.{BeginsRun, place_of}
+use Rattle.one_thread.specs.LineInside.{LineStart, steps_before, steps_of, IsInLine, HasFlushedAll, IsBetweenSteps}
+use Rattle.one_thread.specs.LineInside.{run_after, with_all_pushed, FlushesCut}
+use Rattle.play_base.specs.Putting.{KnowsTaken, SeesFrom}
+use Rattle.one_thread.proofs.LineLists.{true_or_false, handed_list, handed_is, handed_few, no_cut, is_cut_here}
+use Rattle.one_thread.proofs.LineLists.{cuts_same, cuts_more, cut_is_next, knows_more, none_refused}
+use Rattle.play_base.proofs.Refusals.{loaded_since, refusals_see}
 use Rattle.one_thread.proofs.AfterLine.{run_of_port}
 use Rattle.one_thread.proofs.Entries.{place_is}
 use Rattle.one_thread.proofs.LineTurns.{front_taken, front_live, due_at, flush_in_turn}
-use Rattle.one_thread.proofs.LineSteps.{empty_is, StepsTo, in_line_steps, sent_met, knows_met}
-use Rattle.one_thread.proofs.LineSteps.{in_line_met, in_line_heard, terminal_is, in_line_flushed}
-use Rattle.one_thread.proofs.LineSteps.{run_flushed, cuts_flushed_is, stuck_flushed, not_stuck}
-use Rattle.journal_check.proofs.Truths.{if_false, on_false, on_true}
+use Rattle.one_thread.proofs.LineSteps.{empty_is, StepsTo, in_line_steps, in_line_met, in_line_heard, terminal_is}
+use Rattle.one_thread.proofs.LineSteps.{in_line_flushed, run_flushed, cuts_flushed_is, stuck_flushed}
+use Rattle.play_base.proofs.Meetings.{sent_met, knows_met, not_stuck}
+use Rattle.legal_runs.proofs.Truths.{if_false, on_false, on_true}
 
 run_met : (run : ℕ) (v : PortValue) (putter : PutterState Flagged)
     → BeginsRun run v
@@ -79,10 +81,10 @@ module _ (b : LineStart) (v : PortValue) (putter now : PutterState Flagged) (lin
       (knows_more (length v.flip.taken) putter.heads st.hands_over.offers.loaded i.knows rises)
 
   begins_now : IsPrefix v.flip.taken now.sent
-  begins_now = subst (λ (xs : List Flagged). IsPrefix v.flip.taken xs) (sym st.hands_over.offers.accepts_rest)
+  begins_now = subst (λ (xs : List Flagged). IsPrefix v.flip.taken xs) (sym st.hands_over.offers.appends_rest)
       (begins_through v.flip.taken putter.sent
-      (putter.sent ++ accepted_list st.hands_over.list st.hands_over.offers.answers) i.begins
-      (begins_more putter.sent (accepted_list st.hands_over.list st.hands_over.offers.answers)))
+      (putter.sent ++ appended_list st.hands_over.list st.hands_over.offers.answers) i.begins
+      (begins_more putter.sent (appended_list st.hands_over.list st.hands_over.offers.answers)))
 
   more_now : next.report.overruns.items ≡ b.line.report.overruns.items ++ (i.overruns ++ refused)
   more_now =
@@ -107,13 +109,13 @@ module _ (b : LineStart) (v : PortValue) (putter now : PutterState Flagged) (lin
       (loaded_since (length v.flip.taken) putter.heads st.hands_over.offers.loaded i.knows rises) reach))
 
   -- where all was taken, all that the step hands over is put
-  module _ (c : IsCaughtUp b v putter done i.overruns) where
-    all_accepted : (accepted_list st.hands_over.list st.hands_over.offers.answers ≡ st.hands_over.list) × (refused ≡ [])
+  module _ (c : HasFlushedAll b v putter done i.overruns) where
+    all_accepted : (appended_list st.hands_over.list st.hands_over.offers.answers ≡ st.hands_over.list) × (refused ≡ [])
     all_accepted =
         let few : length st.hands_over.list ≤ 17 =
         subst (λ (xs : List Flagged). length xs ≤ 17) (sym cut_is) (handed_few (steps_before b ++ done) step) in
-        let room : 64 ≤ putter.capacity =
-        subst (λ (n : ℕ). 64 ≤ n) (sym i.in_line.has_put.capacity) i.in_line.some_room in
+        let room : LEAST_FLIP ≤ putter.capacity =
+        subst (λ (n : ℕ). LEAST_FLIP ≤ n) (sym i.in_line.has_put.capacity) i.in_line.some_room in
         let all : length v.flip.taken ≡ length putter.sent = ap length c.all in
         none_refused putter.capacity (length v.flip.taken) place (length putter.sent) st.hands_over.list
         st.hands_over.offers.answers st.hands_over.offers.loaded st.hands_over.offers.one_each
@@ -122,7 +124,7 @@ module _ (b : LineStart) (v : PortValue) (putter now : PutterState Flagged) (lin
 
     sent_now : now.sent ≡ putter.sent ++ cut
     sent_now =
-        st.hands_over.offers.accepts_rest ∙ ap (λ (xs : List Flagged). putter.sent ++ xs) (all_accepted.0 ∙ cut_is)
+        st.hands_over.offers.appends_rest ∙ ap (λ (xs : List Flagged). putter.sent ++ xs) (all_accepted.0 ∙ cut_is)
 
     none_now : i.overruns ++ refused ≡ []
     none_now = (λ k. c.none k ++ all_accepted.1 k)
@@ -130,8 +132,8 @@ module _ (b : LineStart) (v : PortValue) (putter now : PutterState Flagged) (lin
   -- ---- nothing was put
 
   rests_open : length now.sent ≡ length putter.sent
-      → IsCaughtUp b v putter done i.overruns
-      → IsCaughtUp b v now (done ++ step ∷ []) (i.overruns ++ refused)
+      → HasFlushedAll b v putter done i.overruns
+      → HasFlushedAll b v now (done ++ step ∷ []) (i.overruns ++ refused)
   rests_open same c =
       let sent = sent_now c in
       let none : length cut ≡ 0 = omega (arith, same, ap length sent, length-append putter.sent cut) in
@@ -146,8 +148,8 @@ module _ (b : LineStart) (v : PortValue) (putter now : PutterState Flagged) (lin
       }
 
   rests_either : length now.sent ≡ length putter.sent
-      → IsCaughtUp b v putter done i.overruns ⊎ (is_stuck v.terminal ≡ true)
-      → IsCaughtUp b v now (done ++ step ∷ []) (i.overruns ++ refused) ⊎ (is_stuck v.terminal ≡ true)
+      → HasFlushedAll b v putter done i.overruns ⊎ (is_stuck v.terminal ≡ true)
+      → HasFlushedAll b v now (done ++ step ∷ []) (i.overruns ++ refused) ⊎ (is_stuck v.terminal ≡ true)
   rests_either same (inl c) = inl (rests_open same c)
   rests_either same (inr h) = inr h
 
@@ -167,7 +169,7 @@ module _ (b : LineStart) (v : PortValue) (putter now : PutterState Flagged) (lin
   -- ---- a flush follows
 
   module _ (met after : PutterState Flagged) (x : PortValue) (most : ℕ)
-      (most_is : most ≡ min (length now.sent - length putter.sent) 64) (port : IsPort v)
+      (most_is : most ≡ min (length now.sent - length putter.sent) PIECE) (port : IsPort v)
       (taken : v.terminal.taken ≡ length v.flip.taken) (heard : met ≡ with_all_pushed now)
       (again : MeetsTaker x.flip met after) where
     -- the port when it was told of what was put
@@ -188,7 +190,7 @@ module _ (b : LineStart) (v : PortValue) (putter now : PutterState Flagged) (lin
     begins_after =
         subst (λ (xs : List Flagged). IsPrefix x.flip.taken xs) (sym (sent_met x.flip met after again)) again.begins
 
-    module _ (n : ℕ) (takes : Takes told x run 0 most n) (c : IsCaughtUp b v putter done i.overruns) where
+    module _ (n : ℕ) (takes : Takes told x run 0 most n) (c : HasFlushedAll b v putter done i.overruns) where
       place_at : (place_of b.scene v.journal).terminal ≡ v.terminal
       place_at = place_is b.scene v (run_of_port b.scene v i.in_line.of_scene port)
 
@@ -270,7 +272,7 @@ module _ (b : LineStart) (v : PortValue) (putter now : PutterState Flagged) (lin
       in_line_taken = in_line_met b x met after next (done ++ step ∷ [])
           (in_line_flushed b told x met next (done ++ step ∷ []) run most n in_line_told takes in_turn) again
 
-      taken_open : IsCaughtUp b (record x { flip = after_meeting x.flip met }) after (done ++ step ∷ [])
+      taken_open : HasFlushedAll b (record x { flip = after_meeting x.flip met }) after (done ++ step ∷ [])
           (i.overruns ++ refused)
           ⊎ (is_stuck x.terminal ≡ true)
       taken_open = elim all_or_closed [
@@ -307,7 +309,7 @@ module _ (b : LineStart) (v : PortValue) (putter now : PutterState Flagged) (lin
     -- a port that takes nothing is stuck
     none_is_stuck : length putter.sent < length now.sent
         → TakesNone told x
-        → IsCaughtUp b v putter done i.overruns ⊎ (is_stuck v.terminal ≡ true)
+        → HasFlushedAll b v putter done i.overruns ⊎ (is_stuck v.terminal ≡ true)
         → is_stuck v.terminal ≡ true
     none_is_stuck more takes (inr h) = h
     none_is_stuck more takes (inl c) =
@@ -349,8 +351,8 @@ module _ (b : LineStart) (v : PortValue) (putter now : PutterState Flagged) (lin
     -- what takes characters is not stuck
     took_open : (n : ℕ)
         → Takes told x run 0 most n
-        → IsCaughtUp b v putter done i.overruns ⊎ (is_stuck v.terminal ≡ true)
-        → IsCaughtUp b v putter done i.overruns
+        → HasFlushedAll b v putter done i.overruns ⊎ (is_stuck v.terminal ≡ true)
+        → HasFlushedAll b v putter done i.overruns
     took_open n takes (inl c) = c
     took_open n takes (inr h) =
         let flush = takes.appends.allowed.1.1 in
@@ -367,7 +369,7 @@ module _ (b : LineStart) (v : PortValue) (putter now : PutterState Flagged) (lin
         step_stays h (on_true (is_stuck v.terminal) (x ≡ told) (LooksAtNone told x) h takes.cause)
 
   pub step_flushes : (w : PortValue) (after : PutterState Flagged) (most later : ℕ)
-      → most ≡ min (length now.sent - length putter.sent) 64
+      → most ≡ min (length now.sent - length putter.sent) PIECE
       → 1 ≤ most
       → FlushesCut v w now after run most later
       → IsBetweenSteps b w after next (done ++ step ∷ []) later

@@ -25,28 +25,31 @@ use Rattle.tty_calls.specs.Sessions.{call_at, counts_on, line_on}
 use Rattle.tty_terminal.specs.declared.callers.Piece.{Piece}
 use Rattle.tty_terminal.specs.Terminals.{Terminal, caller_at}
 use Rattle.tty_terminal.specs.Steps.{follows, Allowed, after, nothing_to_flush}
-use Rattle.tty_terminal.specs.Runs.{Leads, Grows, is_flush, chars_of}
+use Rattle.tty_terminal.specs.Runs.{Leads, KnowsMore, is_flush, chars_of}
 use Rattle.tty_terminal.proofs.Runs.{leads_more}
-use Rattle.journal_check.specs.Legal.{phase_at, first_step, script_of_first, received_before, AreInPhases}
+use Rattle.legal_runs.specs.Legal.{phase_at, first_step, script_of_first, received_before, AreInPhases}
 use Rattle.port_core.specs.Flips.{MeetsTaker, after_meeting}
 use Rattle.port_core.specs.Phases.{EndsLine}
 use Rattle.port_core.specs.Ports.{PortValue, IsPort, Denies, call_in, is_stuck, phase_entry}
-use Rattle.one_thread.specs.Order.{Place, cuts_in, cuts_after, due, front_to_flush}
-use Rattle.one_thread.specs.Order.{turn_after, is_after_flush, IsInTurn, first_place}
-use Rattle.one_thread.specs.Roles.{Scene}
-use Rattle.one_thread.specs.Stages.{HasAnyOrder, IsOfSceneIn, BeginsRun, RunsBelow}
-use Rattle.one_thread.specs.Stages.{IsAfterLineIn, caller_at_rest, place_of}
-use Rattle.one_thread.specs.Lines.{HasPut, IsAtPhaseIn, SeesIn, PlaysLineIn, StopsInLineIn, StopsLineIn}
-use Rattle.one_thread.specs.LineInside.{LineStart, steps_before, steps_of, IsInLine, SeesFrom, IsCaughtUp}
-use Rattle.one_thread.specs.LineInside.{IsBetweenSteps, DeniesCut, PlaysSteps, StopsSteps, StandsBefore}
-use Rattle.one_thread.proofs.LineLists.{no_cut_left, All_later, overruns_see_most}
-use Rattle.one_thread.proofs.Places.{in_phases_more, place_more, turns_more}
+use Rattle.one_order.specs.Order.{Place, cuts_in, cuts_after, due, front_to_flush, turn_after, is_after_flush, IsInTurn}
+use Rattle.one_order.specs.Order.{first_place}
+use Rattle.play_base.specs.Roles.{Scene}
+use Rattle.play_base.specs.Scenes.{HasAnyOrder, IsOfSceneIn, BeginsRun, RunsBelow, caller_at_rest, place_of}
+use Rattle.one_thread.specs.Stages.{IsAfterLineIn}
+use Rattle.play_base.specs.Putting.{HasPut, SeesIn, SeesFrom}
+use Rattle.play_base.specs.Beginning.{IsAtPhaseIn}
+use Rattle.one_thread.specs.Lines.{PlaysLineIn, StopsInLineIn, StopsLineIn}
+use Rattle.one_thread.specs.LineInside.{LineStart, steps_before, steps_of, IsInLine, HasFlushedAll, IsBetweenSteps}
+use Rattle.one_thread.specs.LineInside.{DeniesCut, PlaysSteps, StopsSteps, StandsBefore}
+use Rattle.one_thread.proofs.LineLists.{no_cut_left}
+use Rattle.play_base.proofs.Refusals.{All_later, overruns_see_most}
+use Rattle.one_order.proofs.Places.{in_phases_more, place_more, turns_more}
 use Rattle.one_thread.proofs.AfterLine.{run_of_port}
 use Rattle.one_thread.proofs.Entries.{place_is}
 use Rattle.one_thread.proofs.LineTurns.{front_stuck, front_of_none, due_at, line_in_turn}
-use Rattle.one_thread.proofs.LineSteps.{place_is_after, sent_met, knows_met, has_put_met, has_put_at}
-use Rattle.one_thread.proofs.LineSteps.{in_line_met, in_line_heard, StepsTo, in_line_steps}
-use Rattle.journal_check.proofs.ReceiptLemmas.{first_more}
+use Rattle.one_thread.proofs.LineSteps.{place_is_after, in_line_met, in_line_heard, StepsTo, in_line_steps}
+use Rattle.play_base.proofs.Meetings.{sent_met, knows_met, has_put_met, has_put_at}
+use Rattle.legal_runs.proofs.LineLemmas.{first_more}
 
 same_number : (m n : ℕ) → (m == n) ≡ true → m ≡ n
 same_number m n h = grind (arith, nat_tests)
@@ -87,7 +90,7 @@ module _ (s : Scene) (v : PortValue) (putter met : PutterState Flagged) (line : 
     arrived = omega arith;
   }
 
-  open_first : (v.terminal.taken == v.terminal.sent) ≡ true → IsCaughtUp (start_of s v line) v met [] []
+  open_first : (v.terminal.taken == v.terminal.sent) ≡ true → HasFlushedAll (start_of s v line) v met [] []
   open_first h =
       let sent : met.sent ≡ putter.sent = sent_met v.flip putter met meets in
       let same : v.terminal.taken ≡ v.terminal.sent = same_number v.terminal.taken v.terminal.sent h in
@@ -98,7 +101,7 @@ module _ (s : Scene) (v : PortValue) (putter met : PutterState Flagged) (line : 
       }
 
   open_or_stuck_first : (nothing_to_flush v.terminal ≡ true)
-      → IsCaughtUp (start_of s v line) v met [] [] ⊎ (is_stuck v.terminal ≡ true)
+      → HasFlushedAll (start_of s v line) v met [] [] ⊎ (is_stuck v.terminal ≡ true)
   open_or_stuck_first h = elim (or_cases (v.terminal.taken == v.terminal.sent) (is_stuck v.terminal) h)
       [ inl all ↦ inl (open_first all) | inr stuck ↦ inr stuck ]
 
@@ -171,6 +174,9 @@ stops_in_line b v putter line steps left script i full = record {
   leads = i.leads;
   in_turn = i.in_turn;
   inside = i.inside;
+  no_end = i.no_end;
+  line_over = i.line_over;
+  kept = i.kept;
   tick = i.tick;
   full = full ∙ i.of_scene.limit;
   ring = i.ring;
@@ -225,7 +231,7 @@ module _ (b : LineStart) (v w : PortValue) (putter now : PutterState Flagged) (l
   place_at : (place_of b.scene v.journal).terminal ≡ v.terminal
   place_at = place_is b.scene v (run_of_port b.scene v i.in_line.of_scene port)
 
-  none_due : IsCaughtUp b v putter (steps_of b) i.overruns ⊎ (is_stuck v.terminal ≡ true)
+  none_due : HasFlushedAll b v putter (steps_of b) i.overruns ⊎ (is_stuck v.terminal ≡ true)
       → due b.scene.port b.scene.session (place_of b.scene v.journal) ≡ []
   none_due (inl c) =
       due_at b.scene.port b.scene.session (place_of b.scene v.journal) v.terminal b.phase
@@ -254,7 +260,7 @@ module _ (b : LineStart) (v w : PortValue) (putter now : PutterState Flagged) (l
     counts = ap (λ (y : PortValue). y.counts) x.appends.appended ∙ i.in_line.of_scene.counts;
     capacity = ap (λ (f : TakerState Flagged). f.capacity) x.flip ∙ i.in_line.of_scene.capacity;
     limit = ap (λ (y : PortValue). y.limit) x.appends.appended ∙ i.in_line.of_scene.limit;
-    known = subst (λ ks. Grows (call_in ks) (call_at b.scene.port b.scene.session))
+    known = subst (λ ks. KnowsMore (call_in ks) (call_at b.scene.port b.scene.session))
         (sym (ap (λ (y : PortValue). y.kept) x.appends.appended)) i.in_line.of_scene.known;
     in_phases = subst (λ (es : List PlainEntry). AreInPhases b.scene.port b.scene.session 0 es) (sym journal_end)
         (in_phases_more b.scene.port b.scene.session 0 v.journal end i.in_line.of_scene.in_phases tt);

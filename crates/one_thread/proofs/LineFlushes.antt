@@ -4,6 +4,7 @@ use Rattle.std.proofs.Common.{sym, ◌∙◌, ap, subst, arith, append-nil, inl,
 use Rattle.std.specs.Prelude.{Result, Ok, Err, IfOk, IfErr, IsTrue}
 use Rattle.std.proofs.lemmas.Bool.{cases_lt}
 use Rattle.std.proofs.lemmas.List.Elements.{All-nil, All-cons}
+use Rattle.tty_base.specs.Sizes.{PIECE}
 use Rattle.tty_base.specs.declared.characters.Flagged.{Flagged}
 use Rattle.word_ring.specs.Ends.{PutterState}
 use Rattle.tty_calls.specs.declared.answers.Denied.{Denied}
@@ -19,7 +20,7 @@ use Rattle.port_core.specs.Ports.{PortValue, Denies, is_stuck, flush_entry}
 use Rattle.one_thread.specs.Acts.{FlushesOnce}
 use Rattle.one_thread.specs.LineInside.{FlushesSince, DeniesCut}
 use Rattle.one_thread.proofs.LineLists.{true_or_false}
-use Rattle.journal_check.proofs.Truths.{on_false, on_true}
+use Rattle.legal_runs.proofs.Truths.{on_false, on_true}
 
 -- nothing but what is known of the flip buffer, or that memory was wanting, is other than before
 record IsAlike (old new : PortValue) : Type 0 where
@@ -111,7 +112,7 @@ since_once before old new putter now run (Ok next) f h =
     elim (cases_lt before (length putter.sent)) [
       | inl lt ↦
           let cut = f.some lt in
-          piece old cut.left new putter cut.met run (min (length putter.sent - before) 64)
+          piece old cut.left new putter cut.met run (min (length putter.sent - before) PIECE)
           cut.flushed cut.flushes cut.new_is
       | inr le ↦ same old new (f.none le).0
     ]

@@ -1,23 +1,23 @@
 -- What a step of a line hands over: the characters of one cut, or none.
-use Rattle.std.proofs.Common.{◌≡◌, ◌⊎◌, ℕ, suc, ◌+◌, ◌<◌, ◌≤◌, Bool, true, false, nat_lt, if◌then◌else◌}
+use Rattle.std.proofs.Common.{◌≡◌, ◌⊎◌, ℕ, ◌+◌, ◌<◌, ◌≤◌, Bool, true, false, nat_lt, if◌then◌else◌}
 use Rattle.std.proofs.Common.{List, [], ◌∷◌, ◌++◌, length, take, get_or, reverse, refl, sym, ◌∙◌, ap}
 use Rattle.std.proofs.Common.{subst, arith, append_assoc, append-nil, length-append, length-take, inl, inr}
 use Rattle.std.specs.List.{All}
 use Rattle.std.specs.List.Sorted.{IsNonDecreasing}
 use Rattle.std.proofs.lemmas.Bool.Decides.{nat_tests}
 use Rattle.std.proofs.lemmas.List.{reverse-append, append_cancel_left, get_or-append-add, get_or_past}
-use Rattle.std.proofs.lemmas.List.Elements.{All-nil, All-cons, All-head, All-tail, All-weaker}
+use Rattle.std.proofs.lemmas.List.Elements.{All-head}
 use Rattle.tty_base.specs.declared.characters.Flagged.{Flagged}
 use Rattle.tty_base.specs.declared.lines.LineStep.{LineStep}
-use Rattle.tty_base.specs.declared.lines.Overrun.{Overrun}
 use Rattle.tty_base.specs.Lines.{arrival}
 use Rattle.uart_line.specs.Received.{is_cut, window, window_output, overrun_mark, received_list, waiting_list}
-use Rattle.uart_line.specs.Offered.{PutAnswer, accepts, refuses, accepted_list}
-use Rattle.uart_line.specs.Offered.{overrun_list, IsFullAt, AreAmong, HandsOver}
+use Rattle.uart_line.specs.Offered.{PutAnswer, appends, refuses, appended_list}
+use Rattle.uart_line.specs.Offered.{overrun_list, IsFullAt, AreAmong}
 use Rattle.uart_line.proofs.Steps.{cut_after, received_list-step}
-use Rattle.one_thread.specs.Order.{cuts_after}
-use Rattle.one_thread.specs.LineInside.{KnowsTaken, SeesFrom}
-use Rattle.journal_check.proofs.Truths.{if_false, if_true}
+use Rattle.one_order.specs.Order.{cuts_after}
+use Rattle.play_base.specs.Putting.{KnowsTaken}
+use Rattle.legal_runs.proofs.Truths.{if_false, if_true}
+use Rattle.play_base.proofs.Refusals.{All_later}
 
 -- ---- choices
 
@@ -175,41 +175,7 @@ cut_is_next before done step left cut =
 pub no_cut_left : (cuts : List (List Flagged)) (n : ℕ) → n ≡ length cuts → get_or cuts n [] ≡ []
 no_cut_left cuts n e = get_or_past cuts n [] (omega arith)
 
--- ---- the script of the phases
-
 -- ---- heads
-
-pub All_later : {A : Type 0} (P : A → Type 0) (xs : List A) (ys : List A) → All P (xs ++ ys) → All P ys
-All_later P [] ys h = h
-All_later P (x ∷ xs) ys h = All_later P xs ys (All-tail P x (xs ++ ys) h)
-
-pub All_front : {A : Type 0} (P : A → Type 0) (xs : List A) (ys : List A) → All P (xs ++ ys) → All P xs
-All_front P [] ys h = All-nil P
-All_front P (x ∷ xs) ys h = All-cons P x xs (All-head P x (xs ++ ys) h) (All_front P xs ys (All-tail P x (xs ++ ys) h))
-
--- where the heads do not fall, those after one are at least that
-later_heads : (before : List ℕ) (n : ℕ) (later : List ℕ)
-    → IsNonDecreasing (before ++ n ∷ later)
-    → All (λ h. n ≤ h) later
-later_heads before n later rise i d lt =
-    omega (
-      arith,
-      rise (length before + 0) (length before + suc i) d (omega arith)
-          (omega (arith, length-append before (n ∷ later), lt)),
-      get_or-append-add before (n ∷ later) 0 d,
-      get_or-append-add before (n ∷ later) (suc i) d,
-    )
-
--- heads that were loaded since are at least the number taken
-pub loaded_since : (taken : ℕ) (heads loaded : List ℕ)
-    → KnowsTaken taken heads
-    → IsNonDecreasing (heads ++ loaded)
-    → All (λ h. taken ≤ h) loaded
-loaded_since taken heads loaded k rise =
-    let parts : heads ++ loaded ≡ k.before ++ taken ∷ (k.later ++ loaded) =
-    ap (λ (hs : List ℕ). hs ++ loaded) k.parts ∙ append_assoc k.before (taken ∷ k.later) loaded in
-    All_later (λ h. taken ≤ h) k.later loaded
-    (later_heads k.before taken (k.later ++ loaded) (subst IsNonDecreasing parts rise))
 
 pub knows_more : (taken : ℕ) (heads loaded : List ℕ)
     → KnowsTaken taken heads
@@ -231,13 +197,13 @@ pub none_refused : (capacity base place sent : ℕ) (cs : List Flagged) (ps : Li
     → AreAmong ps heads
     → All (λ h. base ≤ h) heads
     → sent + length cs < base + capacity
-    → (accepted_list cs ps ≡ cs) × (overrun_list place sent ps ≡ [])
-unfolding accepted_list overrun_list IsFullAt AreAmong
+    → (appended_list cs ps ≡ cs) × (overrun_list place sent ps ≡ [])
+unfolding appended_list overrun_list IsFullAt AreAmong
 none_refused capacity base place sent [] [] heads e h among all room = (refl, refl)
 none_refused capacity base place sent [] (p ∷ ps) heads e h among all room = absurd (omega (arith, e))
 none_refused capacity base place sent (c ∷ cs) [] heads e h among all room = absurd (omega (arith, e))
-none_refused capacity base place sent (c ∷ cs) (accepts ∷ ps) heads e h among all room =
-    let rest : (accepted_list cs ps ≡ cs) × (overrun_list (place + 1) (sent + 1) ps ≡ []) =
+none_refused capacity base place sent (c ∷ cs) (appends ∷ ps) heads e h among all room =
+    let rest : (appended_list cs ps ≡ cs) × (overrun_list (place + 1) (sent + 1) ps ≡ []) =
     none_refused capacity base (place + 1) (sent + 1) cs ps heads (omega (arith, e)) h among all (omega arith) in
     (ap (λ r. c ∷ r) rest.0, rest.1)
 none_refused capacity base place sent (c ∷ cs) (refuses seen ∷ ps) heads e h among all room =
@@ -246,55 +212,3 @@ none_refused capacity base place sent (c ∷ cs) (refuses seen ∷ ps) heads e h
     (All_later (λ h. base ≤ h) among.0 (seen ∷ among.1)
     (subst (λ (hs : List ℕ). All (λ h. base ≤ h) hs) among.2 all)) in
     absurd (omega (arith, h.0))
-
--- each refusal lies among the places offered, and has seen one of the heads
-record Lies (Q : ℕ → Type 0) (low high : ℕ) (o : Overrun) : Type 0 where
-  from : low ≤ o.at
-  below : o.at < high
-  sees : Q o.seen
-
-refusals_lie : (Q : ℕ → Type 0) (place high sent : ℕ) (ps : List PutAnswer) (heads : List ℕ)
-    → AreAmong ps heads
-    → All Q heads
-    → place + length ps ≤ high
-    → All (Lies Q place high) (overrun_list place sent ps)
-unfolding overrun_list AreAmong
-refusals_lie Q place high sent [] heads among all h = All-nil (Lies Q place high)
-refusals_lie Q place high sent (accepts ∷ ps) heads among all h =
-    All-weaker (Lies Q (place + 1) high) (Lies Q place high)
-    (λ o l. record { from = omega (arith, l.from); below = l.below; sees = l.sees })
-    (overrun_list (place + 1) (sent + 1) ps)
-    (refusals_lie Q (place + 1) high (sent + 1) ps heads among all (omega (arith, h)))
-refusals_lie Q place high sent (refuses seen ∷ ps) heads among all h =
-    let tail = All_later Q among.0 (seen ∷ among.1) (subst (λ (hs : List ℕ). All Q hs) among.2 all) in
-    let here : Lies Q place high (record { at = place; sent = sent; seen = seen }) =
-    record { from = omega arith; below = omega (arith, h); sees = All-head Q seen among.1 tail } in
-    All-cons (Lies Q place high) (record { at = place; sent = sent; seen = seen }) (overrun_list (place + 1) sent ps)
-    here
-    (All-weaker (Lies Q (place + 1) high) (Lies Q place high)
-    (λ o l. record { from = omega (arith, l.from); below = l.below; sees = l.sees })
-    (overrun_list (place + 1) sent ps)
-    (refusals_lie Q (place + 1) high sent ps among.1 among.3 (All-tail Q seen among.1 tail) (omega (arith, h))))
-
-pub refusals_see : (place high taken sent : ℕ) (ps : List PutAnswer) (heads : List ℕ)
-    → AreAmong ps heads
-    → All (λ h. taken ≤ h) heads
-    → place + length ps ≤ high
-    → All (SeesFrom place high taken) (overrun_list place sent ps)
-refusals_see place high taken sent ps heads among all h =
-    All-weaker (Lies (λ h. taken ≤ h) place high) (SeesFrom place high taken)
-    (λ o l. record { from = l.from; below = l.below; sees = l.sees })
-    (overrun_list place sent ps) (refusals_lie (λ h. taken ≤ h) place high sent ps heads among all h)
-
--- no overrun has seen more than the highest head
-pub overruns_see_most : (capacity most : ℕ) (all sent : List Flagged) (heads : List ℕ) (overruns : List Overrun)
-    → HandsOver capacity [] all [] sent [] heads [] overruns
-    → All (λ h. h ≤ most) heads
-    → All (λ o. o.seen ≤ most) overruns
-overruns_see_most capacity most all sent heads overruns a h =
-    let o = a.offers in
-    subst (λ (os : List Overrun). All (λ o. o.seen ≤ most) os) (sym o.adds_refused)
-    (All-weaker (Lies (λ h. h ≤ most) 0 (length o.answers)) (λ o. o.seen ≤ most) (λ o l. l.sees)
-    (overrun_list 0 0 o.answers)
-    (refusals_lie (λ h. h ≤ most) 0 (length o.answers) 0 o.answers o.loaded o.among_loaded
-    (subst (λ (hs : List ℕ). All (λ h. h ≤ most) hs) o.loads h) (omega arith)))

@@ -9,7 +9,7 @@ use Rattle.tty_base.specs.declared.characters.Flag.TheVariants.{Normal}
 use Rattle.tty_base.specs.declared.characters.Flagged.{Flagged}
 use Rattle.tty_base.specs.declared.lines.LineStep.{LineStep}
 use Rattle.tty_base.specs.Lines.{arrival_count}
-use Rattle.line_steps.specs.declared.Part.{Part}
+use Rattle.line_steps.specs.declared.LinePart.{LinePart}
 use Rattle.line_steps.specs.Steps.{rx_step, steps_in, steps_of as steps_of_part}
 use Rattle.line_steps.proofs.Parts.{one_part_more, steps_around}
 use Rattle.word_ring.specs.Ends.{PutterState}
@@ -20,7 +20,7 @@ use Rattle.uart_line.proofs.Steps.{arrival_count-append}
 use Rattle.tty_calls.specs.declared.answers.Denied.{Denied}
 use Rattle.port_core.specs.Ports.{PortValue}
 use Rattle.one_thread.specs.LineInside.{LineStart, steps_of, IsBetweenSteps, PlaysSteps, StopsSteps, StandsBefore}
-use Rattle.one_thread.proofs.LineLists.{All_front, All_later}
+use Rattle.play_base.proofs.Refusals.{All_front, All_later}
 
 -- as many arrive as there are bytes
 pub arrival_count-run : (flag : Flag) (bytes : List ℕ) → arrival_count (map (rx_step flag) bytes) ≡ length bytes
@@ -160,7 +160,7 @@ run_from flag bytes i lt =
     ∙ ap (λ (l : List LineStep). rx_step flag (get_or bytes i 0) ∷ l) (sym (drop-map (rx_step flag) (i + 1) bytes))
 
 -- a part of a line, after the parts before it
-module _ (parts : List Part) (items : List LineStep) (all : steps_in parts ≡ items) (i : ℕ) (part : Part)
+module _ (parts : List LinePart) (items : List LineStep) (all : steps_in parts ≡ items) (i : ℕ) (part : LinePart)
     (lt : i < length parts) (is : get_or parts i part ≡ part) where
   abbrev front : List LineStep
   front = steps_in (take i parts)
@@ -207,7 +207,7 @@ module _ (parts : List Part) (items : List LineStep) (all : steps_in parts ≡ i
         (stops_early d (steps_of_part part) (closed_script back) w x now after next last later h))
 
 -- after all parts
-pub plays_parts : (parts : List Part) (items : List LineStep) (i : ℕ) (v w : PortValue)
+pub plays_parts : (parts : List LinePart) (items : List LineStep) (i : ℕ) (v w : PortValue)
     (putter now : PutterState Flagged) (line next : LineState) (run later : ℕ)
     → steps_in parts ≡ items
     → length parts ≤ i

@@ -1,42 +1,44 @@
 -- What a step of a line, and a flush after it, come to.
-use Rattle.std.proofs.Common.{◌≡◌, ℕ, ◌+◌, ◌-◌, ◌^◌, ◌<◌, ◌≤◌, Bool, true, false, not, ◌||◌, ◌&&◌}
+use Rattle.std.proofs.Common.{◌≡◌, ℕ, ◌+◌, ◌-◌, ◌<◌, ◌≤◌, Bool, true, false, ◌||◌, ◌&&◌}
 use Rattle.std.proofs.Common.{◌==◌, List, [], ◌∷◌, ◌++◌, length, get_or, refl, sym, ◌∙◌, ap, subst}
-use Rattle.std.proofs.Common.{arith, append_assoc, append-nil, length-append, Option, Some, IsTrue}
+use Rattle.std.proofs.Common.{arith, append_assoc, length-append, Option, Some, IsTrue}
 use Rattle.std.specs.List.{flat_map}
 use Rattle.std.specs.List.Sorted.{IsNonDecreasing}
 use Rattle.std.proofs.lemmas.Bool.Decides.{nat_tests}
 use Rattle.std.proofs.lemmas.List.{flat_map_more}
 use Rattle.std.proofs.lemmas.List.Elements.{All-push, All-weaker}
+use Rattle.tty_base.specs.Sizes.{LEAST_FLIP, MOST_SENT}
 use Rattle.tty_base.specs.declared.characters.Flagged.{Flagged}
 use Rattle.tty_base.specs.declared.lines.LineStep.{LineStep}
 use Rattle.tty_base.specs.Lines.{arrival}
-use Rattle.word_ring.specs.Ends.{PutterState, TakerState}
-use Rattle.word_ring.specs.Names.{name_of, NamesTellRings}
+use Rattle.word_ring.specs.Ends.{PutterState}
+use Rattle.word_ring.specs.Names.{name_of}
 use Rattle.uart_line.specs.LineState.{LineState, HasDone}
 use Rattle.uart_line.specs.Received.{received_list}
-use Rattle.uart_line.specs.Offered.{HandsOver, accepted_list}
-use Rattle.uart_line.proofs.OfferedLemmas.{HandsOver-trans, Offers-none}
+use Rattle.uart_line.specs.Offered.{HandsOver, appended_list}
+use Rattle.uart_line.proofs.OfferedLemmas.{HandsOver-trans}
 use Rattle.uart_line.proofs.Steps.{arrival_count-step}
 use Rattle.tty_calls.specs.Plain.{PlainEntry}
 use Rattle.tty_calls.specs.Sessions.{call_at, counts_on}
 use Rattle.tty_terminal.specs.declared.callers.CallerState.{CallerState}
 use Rattle.tty_terminal.specs.declared.callers.Piece.{Piece}
 use Rattle.tty_terminal.specs.Terminals.{Terminal, caller_at, idle_caller, live_count}
-use Rattle.tty_terminal.specs.Receiving.{accepts, after_character, after_characters, AcceptsAll}
+use Rattle.tty_terminal.specs.Receiving.{accepts, after_character, after_characters}
 use Rattle.tty_terminal.specs.Steps.{follows, Allowed, after}
-use Rattle.tty_terminal.specs.Runs.{Leads, Grows, is_flush}
+use Rattle.tty_terminal.specs.Runs.{Leads, KnowsMore, is_flush}
 use Rattle.tty_terminal.proofs.Runs.{leads_more}
-use Rattle.journal_check.specs.Legal.{session_events, line_ends, AreInPhases}
+use Rattle.legal_runs.specs.Legal.{session_events, line_ends, AreInPhases}
 use Rattle.port_core.specs.Flips.{MeetsTaker, after_meeting}
 use Rattle.port_core.specs.Flushes.{Takes}
 use Rattle.port_core.specs.Ports.{PortValue, call_in, is_stuck, flush_entry}
-use Rattle.one_thread.specs.Order.{Place, IsInTurn, first_place, place_after}
-use Rattle.one_thread.specs.Roles.{Scene}
-use Rattle.one_thread.specs.Stages.{HasAnyOrder, IsOfSceneIn, BeginsRun, RunsBelow, place_of}
-use Rattle.one_thread.specs.Lines.{HasPut}
-use Rattle.one_thread.specs.LineInside.{LineStart, steps_before, IsInLine, KnowsTaken, with_all_pushed}
-use Rattle.one_thread.proofs.Places.{in_phases_more, place_more, place_both, turns_more}
-use Rattle.journal_check.proofs.Truths.{if_false}
+use Rattle.one_order.specs.Order.{Place, IsInTurn, first_place, place_after}
+use Rattle.play_base.specs.Roles.{Scene}
+use Rattle.play_base.specs.Scenes.{HasAnyOrder, IsOfSceneIn, BeginsRun, RunsBelow, place_of}
+use Rattle.play_base.specs.Putting.{HasPut}
+use Rattle.one_thread.specs.LineInside.{LineStart, steps_before, IsInLine, with_all_pushed}
+use Rattle.one_order.proofs.Places.{in_phases_more, place_more, place_both, turns_more}
+use Rattle.legal_runs.proofs.Truths.{if_false}
+use Rattle.play_base.proofs.Meetings.{names_tell, sent_met, has_put_met, has_put_at}
 
 -- ---- small facts
 
@@ -54,26 +56,6 @@ pub no_more_of : {A : Type 0} (f : PlainEntry → List A) (es : List PlainEntry)
     → flat_map f (es ++ e ∷ []) ≡ []
 no_more_of f es e h k = sym (flat_map_more f [] es e) ∙ (λ i. h i ++ k i)
 
--- rings of one name are one ring
-pub names_tell : NamesTellRings
-names_tell ring other same =
-    let words : ring.words ≡ other.words = cc in
-    let slots : ring.slots ≡ other.slots = cc in
-    let views_name : ring.views_name ≡ other.views_name = cc in
-    let atom : ring.atom ≡ other.atom = cc in
-    let block : ring.block ≡ other.block = cc in
-    let offset : ring.offset ≡ other.offset = cc in
-    let slot_names : ring.slot_names ≡ other.slot_names = cc in
-    λ i. record {
-      words = words i;
-      slots = slots i;
-      views_name = views_name i;
-      atom = atom i;
-      block = block i;
-      offset = offset i;
-      slot_names = slot_names i;
-    }
-
 -- ---- what a step of the line comes to
 
 pub record StepsTo (putter now : PutterState Flagged) (line next : LineState) (before : List LineStep)
@@ -83,7 +65,7 @@ pub record StepsTo (putter now : PutterState Flagged) (line next : LineState) (b
       now.sent putter.heads now.heads line.report.overruns.items next.report.overruns.items
   pub capacity : now.capacity ≡ putter.capacity
   pub name : name_of now.ring ≡ name_of putter.ring
-  pub room : next.most ≤ (2 ^ 63 - length now.sent) + next.handed
+  pub room : next.most ≤ (MOST_SENT - length now.sent) + next.handed
   pub rise : IsNonDecreasing putter.heads → IsNonDecreasing now.heads
   pub most : next.most ≡ line.most
   pub arrived : next.report.arrived ≡ line.report.arrived + length (arrival step)
@@ -114,7 +96,7 @@ in_line_steps b v putter now line next done step i st =
     let o = st.hands_over.offers in
     let sent : v.terminal.sent ≤ length now.sent =
     omega
-    (arith, i.sent, ap length o.accepts_rest, length-append putter.sent (accepted_list st.hands_over.list o.answers)) in
+    (arith, i.sent, ap length o.appends_rest, length-append putter.sent (appended_list st.hands_over.list o.answers)) in
     let arrived_more = arrival_count-step done step in
     record {
       of_scene = i.of_scene;
@@ -142,63 +124,6 @@ in_line_steps b v putter now line next done step i st =
     }
 
 -- ---- both ends meet
-
-pub sent_met : (f : TakerState Flagged) (putter now : PutterState Flagged)
-    → MeetsTaker f putter now
-    → now.sent ≡ putter.sent
-sent_met f putter now m = ap (λ (p : PutterState Flagged). p.sent) m.putter
-
-pub heads_met : (f : TakerState Flagged) (putter now : PutterState Flagged)
-    → MeetsTaker f putter now
-    → now.heads ≡ putter.heads ++ length f.taken ∷ []
-heads_met f putter now m = ap (λ (p : PutterState Flagged). p.heads) m.putter
-
-pub knows_met : (f : TakerState Flagged) (putter now : PutterState Flagged)
-    → MeetsTaker f putter now
-    → KnowsTaken (length f.taken) now.heads
-knows_met f putter now m = record { before = putter.heads; later = []; parts = heads_met f putter now m; rise = m.rise }
-
-pub has_put_met : (v : PortValue) (putter now : PutterState Flagged) (line : LineState) (steps : List LineStep)
-    → HasPut v putter line steps → MeetsTaker v.flip putter now → HasPut v now line steps
-has_put_met v putter now line steps h m =
-    let none : HandsOver v.flip.capacity (received_list steps) (received_list steps) putter.sent putter.sent
-    putter.heads now.heads line.report.overruns.items line.report.overruns.items =
-    record {
-      list = [];
-      grows = sym (append-nil (received_list steps));
-      offers = Offers-none v.flip.capacity (length (received_list steps)) putter.sent putter.heads now.heads
-          (length v.flip.taken ∷ []) line.report.overruns.items (heads_met v.flip putter now m);
-    } in
-    let all : HandsOver v.flip.capacity [] (received_list steps)
-    [] putter.sent [] now.heads [] line.report.overruns.items =
-    HandsOver-trans v.flip.capacity [] (received_list steps) (received_list steps) [] putter.sent putter.sent []
-    putter.heads now.heads [] line.report.overruns.items line.report.overruns.items h.hands_over none in
-    record {
-      ring = ap (λ (p : PutterState Flagged). p.ring) m.putter ∙ h.ring;
-      capacity = ap (λ (p : PutterState Flagged). p.capacity) m.putter ∙ h.capacity;
-      done = h.done;
-      hands_over = subst (λ (xs : List Flagged).
-          HandsOver v.flip.capacity [] (received_list steps) [] xs [] now.heads [] line.report.overruns.items)
-          (sym (sent_met v.flip putter now m)) all;
-      room = subst (λ (xs : List Flagged). line.most ≤ (2 ^ 63 - length xs) + line.handed)
-          (sym (sent_met v.flip putter now m)) h.room;
-    }
-
--- the account asks of the port its flip buffer's ring and capacity alone
-pub has_put_at : (v w : PortValue) (putter : PutterState Flagged) (line : LineState) (steps : List LineStep)
-    → w.flip.ring ≡ v.flip.ring
-    → w.flip.capacity ≡ v.flip.capacity
-    → HasPut v putter line steps
-    → HasPut w putter line steps
-has_put_at v w putter line steps ring capacity h = record {
-  ring = h.ring ∙ sym ring;
-  capacity = h.capacity ∙ sym capacity;
-  done = h.done;
-  hands_over = subst
-      (λ (n : ℕ). HandsOver n [] (received_list steps) [] putter.sent [] putter.heads [] line.report.overruns.items)
-      (sym capacity) h.hands_over;
-  room = h.room;
-}
 
 pub scene_met : (s : Scene) (v : PortValue) (putter : PutterState Flagged)
     → IsOfSceneIn HasAnyOrder s v
@@ -343,7 +268,7 @@ module _ (b : LineStart) (v w : PortValue) (putter : PutterState Flagged) (line 
           counts = ap (λ (x : PortValue). x.counts) takes.appends.appended ∙ i.of_scene.counts;
           capacity = takes.takes_out.capacity ∙ i.of_scene.capacity;
           limit = ap (λ (x : PortValue). x.limit) takes.appends.appended ∙ i.of_scene.limit;
-          known = subst (λ ks. Grows (call_in ks) (call_at p session))
+          known = subst (λ ks. KnowsMore (call_in ks) (call_at p session))
               (sym (ap (λ (x : PortValue). x.kept) takes.appends.appended)) i.of_scene.known;
           in_phases = subst (λ (es : List PlainEntry). AreInPhases p session 0 es) (sym journal_is)
               (in_phases_more p session 0 v.journal e i.of_scene.in_phases tt);
@@ -375,7 +300,7 @@ module _ (b : LineStart) (v w : PortValue) (putter : PutterState Flagged) (line 
             subst (λ (m : ℕ). m ≤ length putter.sent) (sym (ap (λ (t : Terminal). t.sent) terminal_is ∙ k.sent)) i.sent;
         ring = takes.takes_out.ring ∙ i.ring;
         capacity = takes.takes_out.capacity ∙ i.capacity;
-        some_room = subst (λ (m : ℕ). 64 ≤ m) (sym takes.takes_out.capacity) i.some_room;
+        some_room = subst (λ (m : ℕ). LEAST_FLIP ≤ m) (sym takes.takes_out.capacity) i.some_room;
         has_put = has_put_at v w putter line (steps_before b ++ steps)
             takes.takes_out.ring takes.takes_out.capacity i.has_put;
         most = i.most;
@@ -417,23 +342,3 @@ module _ (b : LineStart) (v w : PortValue) (putter : PutterState Flagged) (line 
 
   pub stuck_flushed : accepts w.terminal ≡ false → is_stuck w.terminal ≡ true
   stuck_flushed closed = rw closed (or_true (live_count w.terminal == 0))
-
--- a piece is taken only where the port is not stuck
-stuck_takes_none : (closed takes : Bool) → closed ≡ false → takes ≡ true → (closed || not takes) ≡ true → ⊥
-stuck_takes_none true takes h k l = absurd (cc)
-stuck_takes_none false true h k l = absurd (cc)
-stuck_takes_none false false h k l = absurd (cc)
-
-first_accepted : (t : Terminal) (chars : List Flagged) → AcceptsAll t chars → 0 < length chars → accepts t ≡ true
-first_accepted t [] h k = absurd (omega arith)
-first_accepted t (c ∷ cs) h k = h.0
-
-pub not_stuck : (t : Terminal) (chars : List Flagged)
-    → 0 < live_count t
-    → AcceptsAll t chars
-    → 0 < length chars
-    → is_stuck t ≡ true
-    → ⊥
-not_stuck t chars live all some h =
-    let none_live : (live_count t == 0) ≡ false = grind (arith, nat_tests) in
-    stuck_takes_none (live_count t == 0) (accepts t) none_live (first_accepted t chars all some) h

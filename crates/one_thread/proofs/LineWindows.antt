@@ -1,11 +1,12 @@
 -- A step, and the steps of a whole window, of which the last alone hands over, with the flush that follows.
-use Rattle.std.proofs.Common.{◌≡◌, ℕ, suc, zero, ◌+◌, ◌-◌, ◌^◌, min, ◌<◌, ◌≤◌, List, [], ◌∷◌, ◌++◌}
+use Rattle.std.proofs.Common.{◌≡◌, ℕ, suc, zero, ◌+◌, ◌-◌, min, ◌<◌, ◌≤◌, List, [], ◌∷◌, ◌++◌}
 use Rattle.std.proofs.Common.{length, take, drop, get_or, reverse, refl, sym, ◌∙◌, ap, subst}
 use Rattle.std.proofs.Common.{arith, append_assoc, append-nil, length-append, ◌⊎◌, inl, inr}
 use Rattle.std.specs.List.Sorted.{IsNonDecreasing}
 use Rattle.std.specs.List.{All}
 use Rattle.std.proofs.lemmas.Bool.{cases_lt}
 use Rattle.std.proofs.lemmas.List.{length-map, take_all, take_more, take-append-drop}
+use Rattle.tty_base.specs.Sizes.{MOST_SENT, PIECE}
 use Rattle.tty_base.specs.declared.characters.Flag.TheVariants.{Normal}
 use Rattle.tty_base.specs.declared.characters.Flagged.{Flagged}
 use Rattle.tty_base.specs.declared.lines.LineStep.{LineStep}
@@ -18,20 +19,21 @@ use Rattle.word_ring.specs.Names.{name_of}
 use Rattle.uart_line.specs.GoodSteps.{good_steps}
 use Rattle.uart_line.specs.LineState.{LineState, HasDone, IsUncut}
 use Rattle.uart_line.specs.Received.{received_list}
-use Rattle.uart_line.specs.Offered.{HandsOver, accepted_list}
+use Rattle.uart_line.specs.Offered.{HandsOver, appended_list}
 use Rattle.uart_line.proofs.Steps.{arrival_count-append, arrival_count-take}
 use Rattle.tty_calls.specs.declared.answers.Denied.{Denied}
-use Rattle.journal_check.specs.Legal.{received_before}
+use Rattle.legal_runs.specs.Legal.{received_before}
 use Rattle.port_core.specs.declared.ports.flushing.Flushed.{Flushed}
 use Rattle.port_core.specs.Flips.{after_meeting}
 use Rattle.port_core.specs.Flushes.{Flushes}
 use Rattle.port_core.specs.Given.{with_put, with_pushed, FlushesGiven, DeniesGiven}
 use Rattle.port_core.specs.Ports.{PortValue, IsPort}
-use Rattle.one_thread.specs.Order.{cuts_after}
-use Rattle.one_thread.specs.Stages.{HasAnyOrder}
-use Rattle.one_thread.specs.Lines.{HasPut, StopsLineIn}
-use Rattle.one_thread.specs.LineInside.{LineStart, steps_before, steps_of, IsInLine, SeesFrom, IsBetweenSteps}
-use Rattle.one_thread.specs.LineInside.{FlushesSince, DeniesCut, PlaysSteps, StopsSteps, run_after}
+use Rattle.one_order.specs.Order.{cuts_after}
+use Rattle.play_base.specs.Scenes.{HasAnyOrder}
+use Rattle.play_base.specs.Putting.{HasPut, SeesFrom}
+use Rattle.one_thread.specs.Lines.{StopsLineIn}
+use Rattle.one_thread.specs.LineInside.{LineStart, steps_before, steps_of, IsInLine, IsBetweenSteps, FlushesSince}
+use Rattle.one_thread.specs.LineInside.{DeniesCut, PlaysSteps, StopsSteps, run_after}
 use Rattle.one_thread.proofs.LineLists.{handed_list, handed_is, no_cut, cuts_same}
 use Rattle.one_thread.proofs.LineSteps.{StepsTo}
 use Rattle.one_thread.proofs.LineCuts.{step_rests, step_flushes}
@@ -47,8 +49,8 @@ none_put putter now line next before step st none =
     omega (
       arith,
       none,
-      ap length st.hands_over.offers.accepts_rest,
-      length-append putter.sent (accepted_list st.hands_over.list st.hands_over.offers.answers),
+      ap length st.hands_over.offers.appends_rest,
+      length-append putter.sent (appended_list st.hands_over.list st.hands_over.offers.answers),
     )
 
 module _ (b : LineStart) (v : PortValue) (putter now : PutterState Flagged) (line next : LineState)
@@ -60,7 +62,7 @@ module _ (b : LineStart) (v : PortValue) (putter now : PutterState Flagged) (lin
       → IsBetweenSteps b w after next (done ++ step ∷ []) later
   either (inl some) =
       step_flushes b v putter now line next done left step run script i st w after
-      (min (length now.sent - length putter.sent) 64) later
+      (min (length now.sent - length putter.sent) PIECE) later
       refl (omega (arith, some)) (f.some some)
   either (inr none) =
       let same = f.none none in
@@ -86,7 +88,7 @@ pub record WindowTo (putter now : PutterState Flagged) (line next : LineState) (
       now.sent putter.heads now.heads line.report.overruns.items next.report.overruns.items
   pub capacity : now.capacity ≡ putter.capacity
   pub name : name_of now.ring ≡ name_of putter.ring
-  pub room : next.most ≤ (2 ^ 63 - length now.sent) + next.handed
+  pub room : next.most ≤ (MOST_SENT - length now.sent) + next.handed
   pub rise : IsNonDecreasing putter.heads → IsNonDecreasing now.heads
   pub most : next.most ≡ line.most
   pub arrived : next.report.arrived ≡ line.report.arrived + arrival_count (take n steps)
@@ -320,7 +322,7 @@ module _ (v : PortValue) (putter now : PutterState Flagged) (line next : LineSta
 -- ---- a whole window that goes past the flip buffer
 
 -- the line has accepted all of these good characters
-pub record AcceptsWindow (line next : LineState) (bytes : List ℕ) : Type 0 where
+pub record ReceivesWindow (line next : LineState) (bytes : List ℕ) : Type 0 where
   pub some : 0 < length bytes
   pub done : (before : List LineStep) → HasDone line before → HasDone next (before ++ good_steps bytes)
   pub uncut : (before : List LineStep)
@@ -339,7 +341,7 @@ pub record AcceptsWindow (line next : LineState) (bytes : List ℕ) : Type 0 whe
   pub within : next.handed ≤ next.most
 
 module _ (v : PortValue) (putter : PutterState Flagged) (line next : LineState) (bytes : List ℕ) (run : ℕ)
-    (a : AcceptsWindow line next bytes) (put : line.most ≤ (2 ^ 63 - length putter.sent) + line.handed) where
+    (a : ReceivesWindow line next bytes) (put : line.most ≤ (MOST_SENT - length putter.sent) + line.handed) where
   abbrev steps : List LineStep
   steps = good_steps bytes
 
@@ -375,7 +377,7 @@ module _ (v : PortValue) (putter : PutterState Flagged) (line next : LineState) 
   flushes_given : (w : PortValue) (after : PutterState Flagged) (flushed : Flushed)
       → IsPort v
       → v.terminal.taken ≡ length v.flip.taken
-      → length bytes ≤ 64
+      → length bytes ≤ PIECE
       → FlushesGiven v w putter after run chars flushed
       → FlushesSince (length putter.sent) v w (with_put putter chars) after run (run_after run flushed)
   flushes_given w after flushed port taken few g = record {
@@ -399,7 +401,7 @@ module _ (v : PortValue) (putter : PutterState Flagged) (line next : LineState) 
   pub window_given : (w : PortValue) (after : PutterState Flagged) (flushed : Flushed)
       → IsPort v
       → v.terminal.taken ≡ length v.flip.taken
-      → length bytes ≤ 64
+      → length bytes ≤ PIECE
       → FlushesGiven v w putter after run chars flushed
       → PlaysSteps steps v w putter after line next run (run_after run flushed)
   window_given w after flushed port taken few g =

@@ -1,6 +1,6 @@
 -- What is played in whatever order, and what keeps the order of one thread: a journal in it stays in it by each turn
 -- by rank.
-use Rattle.std.proofs.Common.{◌≡◌, ◌++◌, ℕ, List, [], ◌∷◌, sym, ◌∙◌, subst}
+use Rattle.std.proofs.Common.{◌++◌, ℕ, List, [], ◌∷◌, sym, ◌∙◌, subst}
 use Rattle.tty_base.specs.declared.characters.Flagged.{Flagged}
 use Rattle.tty_base.specs.declared.lines.LineStep.{LineStep}
 use Rattle.word_ring.specs.Ends.{PutterState}
@@ -9,37 +9,26 @@ use Rattle.tty_calls.specs.declared.sessions.Script.{Script}
 use Rattle.tty_calls.specs.declared.answers.Denied.{Denied}
 use Rattle.tty_calls.specs.declared.answers.Denied.TheVariants.{NoMemory, Full}
 use Rattle.tty_calls.specs.Plain.{PlainCall, PlainEntry}
-use Rattle.tty_calls.specs.Sessions.{PlainSession, call_at}
 use Rattle.port_core.specs.Ports.{PortValue}
-use Rattle.one_thread.specs.Order.{Place, first_place, next_place, place_after, AreInTurn, IsInTurn, is_of_consoles}
-use Rattle.one_thread.specs.Roles.{Scene}
-use Rattle.one_thread.specs.Stages.{place_of, HasAnyOrder, HasOneOrder, IsOfSceneIn, IsAfterLineIn}
-use Rattle.one_thread.specs.Lines.{IsAtPhaseIn, PlaysLineIn, PlaysLine, StopsLineIn, StopsLine}
+use Rattle.one_order.specs.Order.{first_place, AreInTurn, IsInTurn, is_of_consoles}
+use Rattle.play_base.specs.Roles.{Scene}
+use Rattle.play_base.specs.Scenes.{place_of, HasAnyOrder, HasOneOrder}
+use Rattle.one_thread.specs.Stages.{IsAfterLineIn}
+use Rattle.play_base.specs.Beginning.{IsAtPhaseIn}
+use Rattle.one_thread.specs.Lines.{PlaysLineIn, PlaysLine, StopsLineIn, StopsLine}
 use Rattle.one_thread.specs.Turns.{role_numbers, who_of, IsTurn, IsNextCall, PlaysIn, Plays, PlaysOn, TakesTurn}
 use Rattle.one_thread.specs.Acts.{BeginsLine, BeginsInOrder, PlaysItsLine, StopsItsLine, InTurn, InOrder}
 use Rattle.one_thread.specs.Acts.{PlaysTurn, InCall, PlaysCall, HasNoCall, InLast, PlaysLast, PlayingIn}
-use Rattle.one_thread.specs.declared.roles.Role.{Role}
+use Rattle.play_base.specs.declared.roles.Role.{Role}
 use Rattle.one_thread.specs.declared.after_line.Stand.{Stand}
 use Rattle.one_thread.specs.declared.after_line.Turn.{Turn}
 use Rattle.one_thread.specs.declared.after_line.Turn.TheVariants as turn
-use Rattle.one_thread.proofs.Places.{turns_more}
+use Rattle.one_order.proofs.Places.{turns_more}
 use Rattle.one_thread.proofs.Possible.{by_rank}
 use Rattle.one_thread.proofs.Entries.{by_turn}
+use Rattle.play_base.proofs.OrderLemmas.{scene_in, order_goes_on}
 
 -- ---- the same in another order
-
-pub scene_in : {A : Scene → List PlainEntry → Type 0} (B : Scene → List PlainEntry → Type 0) (s : Scene) (v : PortValue)
-    → IsOfSceneIn A s v
-    → B s v.journal
-    → IsOfSceneIn B s v
-scene_in B s v h turns = record {
-  counts = h.counts;
-  capacity = h.capacity;
-  limit = h.limit;
-  known = h.known;
-  in_phases = h.in_phases;
-  turns = turns;
-}
 
 pub at_phase_in : {A : Scene → List PlainEntry → Type 0} (B : Scene → List PlainEntry → Type 0) (s : Scene) (k : ℕ)
     (v : PortValue) (putter : PutterState Flagged) (line : LineState) (run : ℕ)
@@ -116,23 +105,6 @@ playing_in B s scripts roles start v ticks stand h turns =
 
 -- ---- the line of a phase
 
-turns_both : (p : ℕ) (session : PlainSession) (s : Place) (es part : List PlainEntry)
-    → AreInTurn p session s es
-    → AreInTurn p session (place_after (call_at p session) s es) part
-    → AreInTurn p session s (es ++ part)
-turns_both p session s [] part turns more = more
-turns_both p session s (e ∷ es) part turns more =
-    (turns.0, turns_both p session (next_place (call_at p session) s e) es part turns.1 more)
-
-pub order_goes_on : (s : Scene) (old new part : List PlainEntry)
-    → new ≡ old ++ part
-    → HasOneOrder s old
-    → AreInTurn s.port s.session (place_of s old) part
-    → HasOneOrder s new
-order_goes_on s old new part added turns more =
-    subst (λ (es : List PlainEntry). AreInTurn s.port s.session (first_place s.port s.session) es) (sym added)
-    (turns_both s.port s.session (first_place s.port s.session) old part turns more)
-
 line_ordered : (s : Scene) (k : ℕ) (old new : PortValue) (now : PutterState Flagged) (line played : LineState) (run : ℕ)
     → HasOneOrder s old.journal
     → PlaysLineIn HasAnyOrder s k old new now line played run
@@ -176,6 +148,9 @@ stop_ordered Full s k old new now played turns h =
       leads = h.leads;
       in_turn = h.in_turn;
       inside = h.inside;
+      no_end = h.no_end;
+      line_over = h.line_over;
+      kept = h.kept;
       tick = h.tick;
       full = h.full;
       ring = h.ring;

@@ -7,6 +7,7 @@ use Rattle.std.proofs.lemmas.List.{length-append}
 use Rattle.std.proofs.lemmas.List.Elements.{All-push, All-weaker, All-head, All-tail}
 use Rattle.std.proofs.lemmas.Bool.{false≢true, eqb-true, eq-eqb, cases_lt, and_parts, or_right}
 use Rattle.std.proofs.lemmas.Bool.Decides.{nat_tests}
+use Rattle.tty_base.specs.Sizes.{PIECE}
 use Rattle.tty_base.specs.declared.characters.Flagged.{Flagged}
 use Rattle.tty_calls.specs.declared.sessions.Script.{Script}
 use Rattle.tty_calls.specs.declared.journals.Who.TheVariants.{Clock}
@@ -23,21 +24,21 @@ use Rattle.tty_terminal.proofs.MarkLaws.{step_marks}
 use Rattle.tty_terminal.proofs.StandingLaws.{step_stands}
 use Rattle.tty_terminal.proofs.BeginLaws.{step_generation}
 use Rattle.tty_terminal.proofs.Runs.{run_in_line}
-use Rattle.journal_check.specs.Legal.{first_step}
+use Rattle.legal_runs.specs.Legal.{first_step}
 use Rattle.port_core.specs.Flips.{shown_count}
 use Rattle.port_core.specs.Flushes.{Takes}
 use Rattle.port_core.specs.Ports.{PlainKept, PortValue, IsPort, Appends, phase_entry, flush_entry}
-use Rattle.one_thread.specs.Order.{IsPiece, is_most, is_after_flush}
-use Rattle.one_thread.specs.Roles.{Scene, calls_in, role_in, AreRolesOf}
-use Rattle.one_thread.specs.Stages.{place_of, HasAnyOrder, RunsBelow}
+use Rattle.one_order.specs.Order.{IsPiece, is_most, is_after_flush}
+use Rattle.play_base.specs.Roles.{Scene, calls_in, role_in, AreRolesOf}
+use Rattle.play_base.specs.Scenes.{place_of, HasAnyOrder, RunsBelow}
 use Rattle.one_thread.specs.Turns.{role_numbers, turn_with, IsPossible, standing_at, standing_at_rest}
-use Rattle.one_thread.specs.Turns.{IsInRole, IsKept, HasCallers, next_run, HasRuns, PlaysIn, TakesTurn}
-use Rattle.one_thread.specs.declared.roles.Role.{Role}
+use Rattle.one_thread.specs.Turns.{IsInRole, IsKeptCall, HasCallers, next_run, HasRuns, PlaysIn, TakesTurn}
+use Rattle.play_base.specs.declared.roles.Role.{Role}
 use Rattle.one_thread.specs.declared.after_line.Stand.{Stand}
 use Rattle.one_thread.specs.declared.after_line.Turn.TheVariants as turn
 use Rattle.one_thread.proofs.Possible.{flush_view, pass_view}
 use Rattle.one_thread.proofs.Entries.{IsMore, more_of, place_is, plays_more}
-use Rattle.journal_check.proofs.Truths.{if_true, when_true}
+use Rattle.legal_runs.proofs.Truths.{if_true, when_true}
 
 -- ---- flush runs
 
@@ -120,7 +121,7 @@ callers_same s scripts roles v w callers phase kept same =
           (sym (same r.number)) (callers.in_roles i r is);
       kept = λ c begun.
           let old = callers.kept c (sym (ap (λ (q : Standing). q.begun) (same c)) ∙ begun) in
-          let P : List PlainKept → ℕ → Type 0 = λ ks n. IsKept ks c n in
+          let P : List PlainKept → ℕ → Type 0 = λ ks n. IsKeptCall ks c n in
           subst (λ (ks : List PlainKept). P ks (standing_at w c).next) (sym kept)
           (subst (λ (n : ℕ). P v.kept n) (sym (ap (λ (q : Standing). q.next) (same c))) old);
       others = λ c absent.
@@ -242,12 +243,12 @@ runs_flush v w before run part chars runs more latest same =
     after_some n = grind (arith, nat_tests)
 
 most_case : (len taken sent : ℕ) (accepting : Bool)
-    → ((len ≡ 64) ⊎ ((taken + len ≡ sent) ⊎ (accepting ≡ false)))
-    → ((len == 64) || ((taken + len == sent) || not accepting)) ≡ true
+    → ((len ≡ PIECE) ⊎ ((taken + len ≡ sent) ⊎ (accepting ≡ false)))
+    → ((len == PIECE) || ((taken + len == sent) || not accepting)) ≡ true
 most_case len taken sent accepting h =
     elim h [
-      | inl e ↦ ap (λ (b : Bool). b || ((taken + len == sent) || not accepting)) (eq-eqb len 64 e)
-      | inr k ↦ or_right (len == 64) _ (elim k [
+      | inl e ↦ ap (λ (b : Bool). b || ((taken + len == sent) || not accepting)) (eq-eqb len PIECE e)
+      | inr k ↦ or_right (len == PIECE) _ (elim k [
         | inl e ↦ ap (λ (b : Bool). b || not accepting) (eq-eqb (taken + len) sent e)
         | inr e ↦ or_right (taken + len == sent) _ (ap (λ (b : Bool). not b) e)
       ])
@@ -258,7 +259,7 @@ most_of : (v w : PortValue) (run part n : ℕ)
     → IsPort v
     → v.terminal.line_over ≡ true
     → v.terminal.taken ≤ v.terminal.sent
-    → (takes : Takes v w run part 64 n)
+    → (takes : Takes v w run part PIECE n)
     → accepts w.terminal ≡ accepts (after_characters v.terminal takes.chars)
     → IsTrue (is_most v.terminal takes.chars)
 most_of v w run part n port line taken takes same =
@@ -269,7 +270,7 @@ most_of v w run part n port line taken takes same =
     let rises = takes.looks.rises in
     let count = takes.count in
     most_case (length takes.chars) v.terminal.taken v.terminal.sent (accepts (after_characters v.terminal takes.chars))
-    (elim (cases_lt n 64) [
+    (elim (cases_lt n PIECE) [
       | inl lt ↦
           elim (takes.stops lt) [
             | inl all ↦
@@ -280,7 +281,7 @@ most_of v w run part n port line taken takes same =
           ]
       | inr ge ↦
           let few = takes.few in
-          let is : length takes.chars ≡ 64 = omega arith in
+          let is : length takes.chars ≡ PIECE = omega arith in
           inl is
     ])
 
@@ -292,7 +293,7 @@ pub flush_more : (s : Scene) (scripts : List Script) (roles : List Role) (v w : 
     → PlaysIn HasAnyOrder s scripts roles v stand
     → IsPort v
     → IsPossible v (role_numbers roles) stand.going turn.Flush
-    → Takes v w stand.run stand.part 64 n
+    → Takes v w stand.run stand.part PIECE n
     → TakesTurn s scripts roles v w stand
     (record { run = stand.run; part = stand.part + 1; ticks = stand.ticks; going = stand.going }) turn.Flush
 flush_more s scripts roles v w stand n plays port possible takes =

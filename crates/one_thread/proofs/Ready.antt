@@ -5,22 +5,19 @@ use Rattle.std.specs.Prelude.{slice_get, All, sum}
 use Rattle.std.proofs.lemmas.Option.{slice_get-get_or, get_or_from_slice_get, slice_get_within}
 use Rattle.std.proofs.lemmas.List.{length-map}
 use Rattle.tty_calls.specs.declared.sessions.Script.{Script}
-use Rattle.tty_calls.specs.Plain.{PlainEntry, PlainCall, opens, closes, reads, writes, gets_modes, sets_modes}
-use Rattle.tty_calls.specs.Plain.{gets_disc, sets_disc, flushes, steers, counts_input, counts_output}
-use Rattle.tty_calls.specs.Plain.{excludes, admits, drains, gets_counts, hangs_up, sends_packet, takes_packet}
-use Rattle.tty_calls.specs.Limits as limits
+use Rattle.tty_calls.specs.Plain.{PlainEntry, PlainCall}
 use Rattle.tty_calls.specs.Limits.{byte_count, IsCallWithin}
 use Rattle.tty_terminal.specs.declared.callers.CallerState.{CallerState}
 use Rattle.tty_terminal.specs.Terminals.{caller_at, has_begun}
 use Rattle.port_core.specs.Attempts.{PlainTried, IsReady, Attempts}
 use Rattle.port_core.specs.Ports.{PortValue, Appends, end_entry}
-use Rattle.one_thread.specs.Order.{is_of_consoles}
-use Rattle.one_thread.specs.Roles.{Scene, calls_in}
-use Rattle.one_thread.specs.Stages.{HasAnyOrder}
+use Rattle.one_order.specs.Order.{is_of_consoles}
+use Rattle.play_base.specs.Roles.{Scene, calls_in}
+use Rattle.play_base.specs.Scenes.{HasAnyOrder}
 use Rattle.one_thread.specs.Acts.{InOrder, HasNoCall, InLast, EndsCalls}
 use Rattle.one_thread.specs.Turns.{role_numbers, IsTurn, IsPossible, standing_at, IsNextCall}
 use Rattle.one_thread.specs.Turns.{next_run, PlaysIn, Plays, TakesTurn, going_after}
-use Rattle.one_thread.specs.declared.roles.Role.{Role}
+use Rattle.play_base.specs.declared.roles.Role.{Role}
 use Rattle.one_thread.specs.declared.after_line.Stand.{Stand}
 use Rattle.one_thread.specs.declared.after_line.Turn.{Turn}
 use Rattle.one_thread.specs.declared.after_line.Turn.TheVariants as turn
@@ -28,27 +25,7 @@ use Rattle.one_thread.proofs.Entries.{kept_is}
 use Rattle.one_thread.proofs.Calling.{role_of, may_act, called}
 use Rattle.one_thread.proofs.Acting.{Turns, Calls, tried_more, ended_more}
 use Rattle.std.proofs.lemmas.Bool.{false_from_ne_true}
-
-pub same_bytes : (call : PlainCall) → byte_count call ≡ limits.byte_count call
-same_bytes (opens h access nonblock) = refl
-same_bytes (closes h) = refl
-same_bytes (reads h n) = refl
-same_bytes (writes h bytes) = refl
-same_bytes (gets_modes h) = refl
-same_bytes (sets_modes h when words) = refl
-same_bytes (gets_disc h) = refl
-same_bytes (sets_disc h n) = refl
-same_bytes (flushes h queue) = refl
-same_bytes (steers h act) = refl
-same_bytes (counts_input h) = refl
-same_bytes (counts_output h) = refl
-same_bytes (excludes h) = refl
-same_bytes (admits h) = refl
-same_bytes (drains h) = refl
-same_bytes (gets_counts h) = refl
-same_bytes (hangs_up h) = refl
-same_bytes (sends_packet h bytes) = refl
-same_bytes (takes_packet h) = refl
+use Rattle.tty_base.specs.Sizes.{MOST_ASKED}
 
 all_got : {X : Type 0} (P : X → Type 0) (xs : List X) (i : ℕ) (x : X) → All P xs → slice_get xs i ≡ Some x → P x
 all_got P xs i x all is = subst P (get_or_from_slice_get xs i x x is) (all i x (slice_get_within xs i x is))
@@ -76,7 +53,7 @@ ready_for s scripts roles v stand place r call h =
     all_got IsCallWithin (calls_in (slice_get scripts r.place)) ((standing_at v c).next - r.first)
     call role.within h.next in
     let is_call = called s scripts roles v stand place r call plays h.turns.is h.next in
-    let bytes : byte_count call ≤ 65536 = subst (λ (n : ℕ). n ≤ 65536) (sym (same_bytes call)) within.bytes in
+    let bytes : byte_count call ≤ MOST_ASKED = within.bytes in
     record {
       known = role_known s scripts roles v stand place r plays h.turns.is;
       next = refl;

@@ -11,10 +11,10 @@ use Rattle.tty_terminal.specs.declared.callers.Bound.{Bound}
 use Rattle.tty_terminal.specs.declared.callers.CallerState.{CallerState}
 use Rattle.tty_terminal.specs.Terminals.{is_bound}
 use Rattle.tty_terminal.specs.Standing.{Standing, standing_of}
-use Rattle.journal_check.specs.Legal.{phase_at, name_at, has_script, steps_in}
-use Rattle.one_thread.specs.Stages.{caller_at_rest}
+use Rattle.legal_runs.specs.Legal.{phase_at, name_at, has_script, steps_in}
+use Rattle.play_base.specs.Scenes.{caller_at_rest}
 use Rattle.one_thread.specs.Turns.{standing_at_rest}
-use Rattle.journal_check.proofs.TurnLemmas.{no_calls}
+use Rattle.legal_runs.proofs.ScriptLemmas.{no_calls}
 
 -- ---- first steps
 

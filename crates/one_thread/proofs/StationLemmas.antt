@@ -18,21 +18,25 @@ use Rattle.tty_calls.specs.Sessions.{line_on, ticks_on, scripts_on, call_at, cou
 use Rattle.tty_terminal.specs.declared.callers.CallerState.{CallerState}
 use Rattle.tty_terminal.specs.Terminals.{Terminal, caller_at}
 use Rattle.tty_terminal.specs.Runs.{Leads}
-use Rattle.journal_check.specs.Legal.{phase_at, name_at, has_script, first_step, steps_in}
-use Rattle.journal_check.specs.Legal.{script_of_first, script_on, received_before, session_events_in}
-use Rattle.journal_check.specs.Short.{after_phases}
-use Rattle.journal_check.specs.Phases.{HasPlayed, CompletesPhase}
+use Rattle.legal_runs.specs.Legal.{phase_at, name_at, has_script, first_step, steps_in, script_of_first, script_on}
+use Rattle.legal_runs.specs.Legal.{received_before}
+use Rattle.legal_runs.specs.Short.{after_phases}
+use Rattle.legal_runs.specs.Phases.{HasPlayed, CompletesPhase}
 use Rattle.port_core.specs.Ports.{PortValue}
-use Rattle.one_thread.specs.Order.{Place, place_after, first_place, cuts_flushed}
-use Rattle.one_thread.specs.Roles.{Scene}
-use Rattle.one_thread.specs.Stages.{place_of, AreAtFirst, IsOfSceneIn, EndsAfterLineIn, StopsAfterLine}
-use Rattle.one_thread.specs.Lines.{HasPut, IsAtPhaseIn, IsAtPhase, PlaysLineIn, PlaysLine, StopsInLineIn, StopsLine}
-use Rattle.one_thread.specs.Phases.{HasFewTicks, HavePlayed, HavePlayedInOrder, IsFullRun, StopsFull}
-use Rattle.one_thread.proofs.Places.{place_more}
-use Rattle.one_thread.proofs.JournalLemmas.{none_ends, leads_both, stops_within}
-use Rattle.one_thread.proofs.ReceivedLemmas.{script_parts, kept_later, arrivals_fit, hands_over_loaded}
-use Rattle.one_thread.proofs.PhaseLemmas.{few_ticks, phase_stays, PlaysPart, line_inside}
-use Rattle.one_thread.proofs.PhaseLemmas.{all_see_within, played_more, seen_all_more}
+use Rattle.one_order.specs.Order.{Place, place_after, first_place, cuts_flushed}
+use Rattle.play_base.specs.Roles.{Scene}
+use Rattle.play_base.specs.Scenes.{place_of, AreAtFirst, IsOfSceneIn}
+use Rattle.one_thread.specs.Stages.{EndsAfterLineIn, StopsAfterLine}
+use Rattle.play_base.specs.Putting.{HasPut}
+use Rattle.play_base.specs.Beginning.{IsAtPhaseIn, IsAtPhase}
+use Rattle.one_thread.specs.Lines.{PlaysLineIn, PlaysLine, StopsInLineIn, StopsLine}
+use Rattle.play_base.specs.Phases.{HasFewTicks, HavePlayed, HavePlayedInOrder, IsFullRun, StopsFull}
+use Rattle.one_order.proofs.Places.{place_more}
+use Rattle.play_base.proofs.JournalLemmas.{none_ends, leads_both, stops_within}
+use Rattle.play_base.proofs.ReceivedLemmas.{script_parts, kept_later, arrivals_fit, hands_over_loaded}
+use Rattle.play_base.proofs.PhaseLemmas.{few_ticks, phase_stays, PlaysPart, line_inside, all_see_within, played_more}
+use Rattle.play_base.proofs.PhaseLemmas.{seen_all_more}
+use Rattle.play_base.proofs.FullRuns.{full_in_phase}
 
 -- ---- places
 
@@ -277,31 +281,6 @@ full_in_line s k old new putter now line played run within before so_far stops =
   left = stops.left ++ script (map (line_on s.port) (drop (k + 1) s.session.phases));
   script_is = script_left s k stops.steps stops.left stops.script;
   has_put = stops.has_put;
-}
-
--- the journal is full in a phase whose line has done its steps
-pub full_in_phase : (s : Scene) (k : ℕ) (old new : PortValue) (now : PutterState Flagged) (played : LineState)
-    (overruns : List Overrun) (part : List PlainEntry)
-    → k < length s.session.phases
-    → HavePlayed s k old.journal overruns
-    → length new.journal ≡ 4194304
-    → new.journal ≡ old.journal ++ part
-    → Leads (call_at s.port s.session) (counts_on s.port s.session) old.terminal part new.terminal
-    → session_events_in part ≡ []
-    → new.terminal.tick ≤ old.terminal.tick + ticks_on s.port (phase_at s.session k)
-    → HasPut new now played (script_of_first s.port s.session (k + 1))
-    → IsFullRun s new now played
-full_in_phase s k old new now played overruns part within so_far full added leads inside ticks put = record {
-  full = full;
-  ticks = subst (HasFewTicks s) (sym added)
-      (few_ticks s k old.journal part old.terminal new.terminal so_far.up_to so_far.ticks leads inside ticks);
-  last =
-      ap (after_phases (length s.session.phases)) added
-      ∙ stops_within k (length s.session.phases) old.journal part so_far.up_to inside within;
-  done = script_of_first s.port s.session (k + 1);
-  left = script (map (line_on s.port) (drop (k + 1) s.session.phases));
-  script_is = script_parts s.port s.session (k + 1);
-  has_put = put;
 }
 
 full_after_line : (s : Scene) (k : ℕ) (old mid new : PortValue) (putter now left : PutterState Flagged)

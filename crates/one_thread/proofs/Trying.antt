@@ -12,12 +12,12 @@ use Rattle.tty_terminal.specs.declared.callers.CallerState.{CallerState}
 use Rattle.tty_terminal.specs.Terminals.{caller_at, has_begun}
 use Rattle.tty_terminal.specs.Calls.{outcome, outcome_of}
 use Rattle.tty_terminal.specs.Steps.{is_wait, quiet}
-use Rattle.tty_terminal.specs.Runs.{Grows, is_of_call}
+use Rattle.tty_terminal.specs.Runs.{KnowsMore, is_of_call}
 use Rattle.port_core.specs.Attempts.{PlainTried, done_by, took_part, must_wait, Attempts}
 use Rattle.port_core.specs.Ports.{PlainKept, PortValue, call_in, kept_with, Appends, with_call, caller_entry}
-use Rattle.one_thread.specs.Roles.{Scene}
+use Rattle.play_base.specs.Roles.{Scene}
 use Rattle.one_thread.specs.Acts.{AddsEntry, InCall, TriesCall, MakesCall}
-use Rattle.one_thread.specs.declared.roles.Role.{Role}
+use Rattle.play_base.specs.declared.roles.Role.{Role}
 use Rattle.one_thread.specs.declared.after_line.Stand.{Stand}
 use Rattle.one_thread.proofs.Kept.{kept_grows}
 use Rattle.one_thread.proofs.Calling.{called, wait_test}
@@ -34,8 +34,8 @@ kept_as s scripts roles v w stand place r call flip e h appends =
     let c = r.number in
     let step = (caller_at v.terminal c).next in
     let is_call = called s scripts roles v stand place r call h.turns.plays h.turns.is h.next in
-    let known : Grows (call_in w.kept) (call_at s.port s.session) =
-    subst (λ (ks : List PlainKept). Grows (call_in ks) (call_at s.port s.session))
+    let known : KnowsMore (call_in w.kept) (call_at s.port s.session) =
+    subst (λ (ks : List PlainKept). KnowsMore (call_in ks) (call_at s.port s.session))
     (sym (ap (λ (x : PortValue). x.kept) appends.appended))
     (kept_grows (has_begun (caller_at v.terminal c)) v.kept c step call (call_at s.port s.session)
     is_call h.turns.plays.of_scene.known) in
@@ -58,7 +58,7 @@ still_same (y ∷ ks) k c step x e = same_case ((y.caller == c) && (y.step == st
     (call_in (ks ++ k ∷ []) c step) x (still_same ks k c step x) e
 
 grown_by : (begun : Bool) (ks : List PlainKept) (c step : ℕ) (call : PlainCall)
-    → Grows (call_in ks) (call_in (kept_with begun ks c step call))
+    → KnowsMore (call_in ks) (call_in (kept_with begun ks c step call))
 grown_by true ks c step call d n x e = e
 grown_by false ks c step call d n x e = still_same ks (record { caller = c; step = step; call = call }) d n x e
 
@@ -86,7 +86,7 @@ made s scripts roles v w stand place r call flip e h appends who step of_call =
       step = step;
       of_call = of_call;
       kept = kept_as s scripts roles v w stand place r call flip e h appends;
-      grows = subst (λ (ks : List PlainKept). Grows (call_in v.kept) (call_in ks))
+      grows = subst (λ (ks : List PlainKept). KnowsMore (call_in v.kept) (call_in ks))
           (sym (ap (λ (x : PortValue). x.kept) appends.appended))
           (grown_by (has_begun (caller_at v.terminal r.number))
           v.kept r.number (caller_at v.terminal r.number).next call);

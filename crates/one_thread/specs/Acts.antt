@@ -12,17 +12,19 @@ use Rattle.tty_calls.specs.declared.sessions.Script.{Script}
 use Rattle.tty_calls.specs.Plain.{PlainCall, PlainEntry}
 use Rattle.tty_calls.specs.Sessions.{line_on, ticks_on, call_at, counts_on}
 use Rattle.tty_terminal.specs.Terminals.{caller_at}
-use Rattle.tty_terminal.specs.Runs.{Leads, Grows, is_flush, is_of_call}
-use Rattle.journal_check.specs.Legal.{phase_at, session_events_in}
+use Rattle.tty_terminal.specs.Runs.{Leads, KnowsMore, is_flush, is_of_call}
+use Rattle.legal_runs.specs.Legal.{phase_at, session_events_in}
 use Rattle.port_core.specs.Attempts.{PlainTried, Attempts}
 use Rattle.port_core.specs.Ports.{PortValue, call_in, Appends, end_entry}
-use Rattle.one_thread.specs.Order.{is_of_consoles}
-use Rattle.one_thread.specs.Roles.{Scene, calls_in}
-use Rattle.one_thread.specs.Stages.{HasAnyOrder, HasOneOrder, EndsAfterLineIn, EndsAfterLine}
-use Rattle.one_thread.specs.Lines.{IsAtPhaseIn, PlaysLineIn, PlaysLine, StopsLineIn, StopsLine}
+use Rattle.one_order.specs.Order.{is_of_consoles}
+use Rattle.play_base.specs.Roles.{Scene, calls_in}
+use Rattle.play_base.specs.Scenes.{HasAnyOrder, HasOneOrder}
+use Rattle.one_thread.specs.Stages.{EndsAfterLineIn, EndsAfterLine}
+use Rattle.play_base.specs.Beginning.{IsAtPhaseIn}
+use Rattle.one_thread.specs.Lines.{PlaysLineIn, PlaysLine, StopsLineIn, StopsLine}
 use Rattle.one_thread.specs.Turns.{role_numbers, standing_at, IsTurn, IsPossible}
 use Rattle.one_thread.specs.Turns.{IsNextCall, PlaysIn, Plays, PlaysOn, TakesTurn}
-use Rattle.one_thread.specs.declared.roles.Role.{Role}
+use Rattle.play_base.specs.declared.roles.Role.{Role}
 use Rattle.one_thread.specs.declared.after_line.Stand.{Stand}
 use Rattle.one_thread.specs.declared.after_line.Turn.{Turn}
 use Rattle.one_thread.specs.declared.after_line.Turn.TheVariants as turn
@@ -111,7 +113,7 @@ pub record MakesCall (old new : PortValue) (c : ℕ) (call : PlainCall) : Type 0
   pub step : entry.step ≡ (caller_at old.terminal c).next
   pub of_call : IsTrue (is_of_call entry.event)
   pub kept : call_in new.kept c (caller_at old.terminal c).next ≡ Some call
-  pub grows : Grows (call_in old.kept) (call_in new.kept)
+  pub grows : KnowsMore (call_in old.kept) (call_in new.kept)
 
 -- what its attempt came to
 pub record TriesCall (roles : List Role) (old new : PortValue) (place : ℕ) (call : PlainCall)

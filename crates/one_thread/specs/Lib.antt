@@ -1,12 +1,5 @@
 pub mod Acts
-pub mod Casting
 pub mod LineInside
 pub mod Lines
-pub mod Order
-pub mod Phases
-pub mod Played
-pub mod Roles
-pub mod Rows
 pub mod Stages
 pub mod Turns
-pub mod Leaving

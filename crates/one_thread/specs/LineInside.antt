@@ -1,7 +1,7 @@
 -- What holds between two steps of the line of a phase.
 use Rattle.std.specs.Prelude.{◌≡◌, ◌⊎◌, ◌≤◌, ◌<◌, ◌+◌, ◌-◌, min, ℕ, List, []}
-use Rattle.std.specs.Prelude.{◌∷◌, ◌++◌, true, false, All, length, reverse}
-use Rattle.std.specs.List.Sorted.{IsNonDecreasing}
+use Rattle.std.specs.Prelude.{◌++◌, true, false, All, length, reverse}
+use Rattle.tty_base.specs.Sizes.{LEAST_FLIP, PIECE}
 use mathlib.Core.List.{IsPrefix}
 use Rattle.tty_base.specs.declared.characters.Flagged.{Flagged}
 use Rattle.tty_base.specs.declared.lines.LineStep.{LineStep}
@@ -14,16 +14,17 @@ use Rattle.tty_calls.specs.declared.answers.Denied.{Denied}
 use Rattle.tty_calls.specs.Plain.{PlainEntry}
 use Rattle.tty_calls.specs.Sessions.{line_on, call_at, counts_on}
 use Rattle.tty_terminal.specs.Runs.{Leads}
-use Rattle.journal_check.specs.Legal.{phase_at, script_of_first, session_events_in, line_ends_in, received_before}
+use Rattle.legal_runs.specs.Legal.{phase_at, script_of_first, session_events_in, line_ends_in, received_before}
 use Rattle.port_core.specs.declared.ports.flushing.Flushed.{Flushed}
 use Rattle.port_core.specs.declared.ports.flushing.Flushed.TheVariants.{Took, Nothing}
 use Rattle.port_core.specs.Flips.{MeetsTaker, after_meeting}
 use Rattle.port_core.specs.Flushes.{Flushes}
 use Rattle.port_core.specs.Ports.{PortValue, IsPort, Denies, is_stuck}
-use Rattle.one_thread.specs.Order.{cuts_after, AreInTurn}
-use Rattle.one_thread.specs.Roles.{Scene}
-use Rattle.one_thread.specs.Stages.{HasAnyOrder, IsOfSceneIn, AreAtFirst, BeginsRun, place_of}
-use Rattle.one_thread.specs.Lines.{HasPut, StopsLineIn}
+use Rattle.one_order.specs.Order.{cuts_after, AreInTurn}
+use Rattle.play_base.specs.Roles.{Scene}
+use Rattle.play_base.specs.Scenes.{HasAnyOrder, IsOfSceneIn, AreAtFirst, BeginsRun, place_of}
+use Rattle.play_base.specs.Putting.{HasPut, KnowsTaken, SeesFrom}
+use Rattle.one_thread.specs.Lines.{StopsLineIn}
 
 -- where the line of a phase began: the scene and the phase, and the port and the line as they were then
 pub record LineStart : Type 0 where
@@ -60,26 +61,13 @@ pub record IsInLine (b : LineStart) (v : PortValue) (putter : PutterState Flagge
   pub sent : v.terminal.sent ≤ length putter.sent
   pub ring : v.flip.ring ≡ b.port.flip.ring
   pub capacity : v.flip.capacity ≡ b.port.flip.capacity
-  pub some_room : 64 ≤ v.flip.capacity
+  pub some_room : LEAST_FLIP ≤ v.flip.capacity
   pub has_put : HasPut v putter line (steps_before b ++ steps)
   pub most : line.most ≡ b.line.most
   pub arrived : line.report.arrived ≡ b.line.report.arrived + arrival_count steps
 
--- a head that was loaded is the number taken, and no later one is lower
-pub record KnowsTaken (taken : ℕ) (heads : List ℕ) : Type 0 where
-  pub before : List ℕ
-  pub later : List ℕ
-  pub parts : heads ≡ before ++ taken ∷ later
-  pub rise : IsNonDecreasing heads
-
--- an overrun between these two places, which has seen at least so many characters taken
-pub record SeesFrom (low high taken : ℕ) (o : Overrun) : Type 0 where
-  pub from : low ≤ o.at
-  pub below : o.at < high
-  pub sees : taken ≤ o.seen
-
 -- all that was put is taken, each cut of the steps was flushed, and none of their characters was refused
-pub record IsCaughtUp (b : LineStart) (v : PortValue) (putter : PutterState Flagged) (steps : List LineStep)
+pub record HasFlushedAll (b : LineStart) (v : PortValue) (putter : PutterState Flagged) (steps : List LineStep)
     (overruns : List Overrun) : Type 0 where
   pub all : v.flip.taken ≡ putter.sent
   pub cuts : (place_of b.scene v.journal).cuts ≡ length (cuts_after (reverse (steps_before b)) steps)
@@ -98,7 +86,7 @@ pub record IsBetweenSteps (b : LineStart) (v : PortValue) (putter : PutterState 
   pub seen : All (SeesFrom (received_before b.scene.port b.scene.session b.phase)
       (length (received_list (steps_before b ++ steps))) (length v.flip.taken)) overruns
   -- the port takes all at each cut; or it is closed to input, and takes no more up to the line's end
-  pub open_or_stuck : IsCaughtUp b v putter steps overruns ⊎ (is_stuck v.terminal ≡ true)
+  pub open_or_stuck : HasFlushedAll b v putter steps overruns ⊎ (is_stuck v.terminal ≡ true)
 
 -- ---- the flush at a cut
 
@@ -133,7 +121,8 @@ pub record DeniesCut (d : Denied) (old new : PortValue) (putter now : PutterStat
 pub record FlushesSince (before : ℕ) (old new : PortValue) (putter now : PutterState Flagged)
     (run next : ℕ) : Type 0 where
   pub none : length putter.sent ≤ before → (new ≡ old) × (now ≡ putter) × (next ≡ run)
-  pub some : before < length putter.sent → FlushesCut old new putter now run (min (length putter.sent - before) 64) next
+  pub some : before < length putter.sent
+      → FlushesCut old new putter now run (min (length putter.sent - before) PIECE) next
 
 -- ---- some steps of a line
 

@@ -11,13 +11,13 @@ use Rattle.tty_terminal.specs.Terminals.{caller_at}
 use Rattle.tty_terminal.specs.Steps.{Allowed, after, follows, nothing_to_flush}
 use Rattle.tty_terminal.specs.Runs.{IsRun, RunHas}
 use Rattle.tty_terminal.specs.Standing.{Standing, standing_of}
-use Rattle.journal_check.specs.Legal.{first_step, session_events, flip_on}
+use Rattle.legal_runs.specs.Legal.{first_step, session_events, flip_on}
 use Rattle.port_core.specs.Attempts.{PlainTried, done_by, took_part, must_wait}
 use Rattle.port_core.specs.Ports.{PlainKept, PortValue, call_in}
-use Rattle.one_thread.specs.Order.{first_of, can_go_on, is_waiting, turn_by_rank, turn_after, is_after_flush, IsPieceOf}
-use Rattle.one_thread.specs.Roles.{Scene, calls_in, role_in, AreRolesOf}
-use Rattle.one_thread.specs.Stages.{place_of, HasAnyOrder, HasOneOrder, IsOfSceneIn, RunsBelow}
-use Rattle.one_thread.specs.declared.roles.Role.{Role}
+use Rattle.one_order.specs.Order.{first_of, can_go_on, is_waiting, turn_by_rank, turn_after, is_after_flush, IsPieceOf}
+use Rattle.play_base.specs.Roles.{Scene, calls_in, role_in, AreRolesOf}
+use Rattle.play_base.specs.Scenes.{place_of, HasAnyOrder, HasOneOrder, IsOfSceneIn, RunsBelow}
+use Rattle.play_base.specs.declared.roles.Role.{Role}
 use Rattle.one_thread.specs.declared.after_line.Stand.{Stand}
 use Rattle.one_thread.specs.declared.after_line.Turn.{Turn}
 use Rattle.one_thread.specs.declared.after_line.Turn.TheVariants as turn
@@ -108,7 +108,7 @@ pub record IsInRole (first count : ℕ) (q : Standing) : Type 0 where
   pub rest : q.begun ≡ false → IsAtRest q
 
 -- the call is kept
-pub record IsKept (kept : List PlainKept) (c step : ℕ) : Type 0 where
+pub record IsKeptCall (kept : List PlainKept) (c step : ℕ) : Type 0 where
   pub call : PlainCall
   pub found : call_in kept c step ≡ Some call
 
@@ -137,7 +137,7 @@ pub record HasCallers (s : Scene) (scripts : List Script) (roles : List Role) (v
   pub in_roles : (i : ℕ) (r : Role)
       → slice_get roles i ≡ Some r
       → IsInRole r.first (length (calls_in (slice_get scripts r.place))) (standing_at v r.number)
-  pub kept : (c : ℕ) → (standing_at v c).begun ≡ true → IsKept v.kept c (standing_at v c).next
+  pub kept : (c : ℕ) → (standing_at v c).begun ≡ true → IsKeptCall v.kept c (standing_at v c).next
   pub others : (c : ℕ)
       → IsAbsent roles c
       → standing_at v c ≡ standing_at_rest (first_step s.port s.session v.terminal.phase c)

@@ -1,28 +1,28 @@
 //! What comes after the line of a phase: flushes, callers and clock, up to the end of the phase.
 
 ghost use Rattle.std.specs.Prelude.{◌≡◌, ◌≢◌, ℕ, ◌≤◌, ◌<◌, ◌^◌, ◌-◌, ◌+◌, All, Some, None, IfOk, IfErr};
-ghost use Rattle.std.specs.Prelude.{IsTrue, MatchOption, OnErr, OnOk, length, map, slice_get, sum};
+ghost use Rattle.std.specs.Prelude.{MatchOption, OnErr, OnOk, length, map, slice_get, sum};
 ghost use Rattle.tty_calls.specs.Plain.{call_of};
 ghost use Rattle.tty_calls.specs.Sessions.{ticks_on};
 ghost use Rattle.tty_terminal.specs.Steps.{after};
 ghost use Rattle.port_core.specs.Attempts.{tried_of};
 ghost use Rattle.port_core.specs.Ports.{call_in, Denies, IsOpen};
-ghost use Rattle.journal_check.specs.Legal.{phase_at};
-ghost use Rattle.one_thread.specs.Order.{can_go_on, is_of_consoles, is_waiting};
-ghost use Rattle.one_thread.specs.Roles.{Scene, calls_in, role_in, AreRolesOf};
+ghost use Rattle.legal_runs.specs.Legal.{phase_at};
+ghost use Rattle.one_order.specs.Order.{can_go_on, is_of_consoles, is_waiting};
+ghost use Rattle.play_base.specs.Roles.{Scene, calls_in, role_in, AreRolesOf};
 ghost use Rattle.one_thread.specs.Stages.{IsAfterLine, EndsAfterLine, StopsAfterLine};
 ghost use Rattle.one_thread.specs.Turns.{role_numbers, IsFirst, IsTurn, Plays, PlaysOn, next_run, going_after};
 ghost use Rattle.one_thread.specs.Acts.{AddsEntry, InTurn, PlaysTurn, InCall, TriesCall};
 ghost use Rattle.one_thread.specs.Acts.{PlaysCall, InLast, EndsCalls, PlaysLast, PlaysEnd};
 ghost use Rattle.one_thread.specs.declared.after_line.Turn.TheVariants as turn;
 
-use crate::roles::Role;
 use flip_buffer::FlipIn;
+use play_base::Role;
 use port_core::{Flushed, Port, Tried};
 use tty_calls::{Call, Denied, Script};
 
 /// The most characters of a piece of a flush run.
-const PIECE: u32 = 64;
+const PIECE: u32 = tty_base::sizes::PIECE as u32;
 
 /// Where the player stands: the next piece of a flush run, the ticks that are left, and the place of
 /// the caller whose write goes on.
@@ -144,7 +144,7 @@ pub fn flush(port: &mut Port, roles: &[Role], stand: Stand) -> Result<Stand, Den
     ensures ok { IfOk result (λ now. PlaysTurn roles.now port.old port.new stand now turn.Flush) }
     ensures err { IfErr result (λ d. Denies d port.old port.new) }
 {
-    let _journal = port.journal();
+    port.known();
     match port.flush_piece(stand.run, stand.part, PIECE)? {
         Flushed::Took(_) => Ok(Stand {
             part: stand.part + 1,
@@ -318,7 +318,7 @@ pub(crate) fn play_after_line(
     ensures err { IfErr result (λ d. StopsAfterLine scene port.old port.new d) }
     ensures putter { OnErr result (putter.new ≡ putter.old) }
 {
-    let _journal = port.journal();
+    port.known();
     let mut stand = Stand {
         run,
         part: 0,

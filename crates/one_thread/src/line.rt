@@ -2,20 +2,21 @@
 //! it has put.
 
 ghost use Rattle.std.specs.Prelude.{◌≡◌, ◌≤◌, ◌<◌, ◌+◌, ◌-◌, ◌^◌, [], ◌∷◌, IsTrue};
-ghost use Rattle.std.specs.Prelude.{IfSome, IfOk, IfErr, All, length, map, take, drop};
-ghost use Rattle.tty_base.specs.Lines.{arrival, arrival_count, is_step};
+ghost use Rattle.std.specs.Prelude.{IfSome, IfOk, IfErr, All, length, map, take};
+ghost use Rattle.tty_base.specs.Sizes.{LEAST_FLIP, MOST_SENT, PIECE};
+ghost use Rattle.tty_base.specs.Lines.{arrival, is_step};
 ghost use Rattle.line_steps.specs.Steps.{rx_step, steps_of as steps_of_part};
 ghost use Rattle.word_ring.specs.Ends.{NothingWaits};
 ghost use Rattle.uart_line.specs.GoodSteps.{good_steps};
-ghost use Rattle.uart_line.specs.WholeWindow.{IsOpen};
+ghost use Rattle.uart_line.specs.WholeWindow.{TakesWindow};
 ghost use Rattle.uart_line.specs.Received.{closed_script};
-ghost use Rattle.one_thread.specs.Stages.{BeginsRun};
+ghost use Rattle.play_base.specs.Scenes.{BeginsRun};
 ghost use Rattle.one_thread.specs.Acts.{BeginsLine, PlaysItsLine, StopsItsLine, FlushesOnce};
 ghost use Rattle.one_thread.specs.LineInside.{StandsBefore, PlaysSteps, StopsSteps};
 ghost use Rattle.one_thread.specs.LineInside.{FlushesSince, DeniesCut, FlushesCut, run_after};
 
 use flip_buffer::FlipIn;
-use line_steps::{LineSteps, Part};
+use line_steps::{LinePart, LineSteps};
 use port_core::{Flushed, Port};
 use tty_base::{Flag, Flagged, LineStep, rest_of};
 use tty_calls::Denied;
@@ -23,7 +24,7 @@ use uart_line::Line;
 use uart_regs::TIMEOUT;
 
 /// The most characters of one flush. A cut gives fewer.
-const PIECE: u64 = 64;
+const PIECE: u64 = tty_base::sizes::PIECE as u64;
 
 /// Plays the line of a phase: its steps, the two that close it, and its end.
 pub fn play_line(
@@ -40,10 +41,10 @@ pub fn play_line(
     ensures err { IfErr result
         (λ d. StopsItsLine d steps.now.items port.old port.new putter.old putter.new line.old line.new run) }
 {
-    port.numbers_tell();
+    port.known();
     port.meet(putter);
     let next = play_steps(port, putter, line, steps, run)?;
-    let _journal = port.journal();
+    port.known();
     port.line_end(putter)?;
     Ok(next)
 }
@@ -88,7 +89,7 @@ fn play_part(
     port: &mut Port,
     putter: &mut FlipIn,
     line: &mut Line,
-    part: &Part,
+    part: &LinePart,
     run: u32,
 ) -> Result<u32, Denied>
     requires good { All (λ step. IsTrue (is_step step)) (steps_of_part part.now) }
@@ -99,9 +100,16 @@ fn play_part(
         (λ d. StopsSteps d (steps_of_part part.now) port.old port.new putter.old putter.new line.old line.new run) }
 {
     match part {
-        Part::Run(Flag::Normal, bytes) => play_run(port, putter, line, bytes.as_slice(), run),
-        Part::Run(flag, bytes) => play_flagged(port, putter, line, *flag, bytes.as_slice(), run),
-        Part::One(step) => play_step(port, putter, line, *step, run),
+        LinePart::Run(Flag::Normal, bytes) => play_run(port, putter, line, bytes.as_slice(), run),
+        LinePart::Run(flag, bytes) => play_flagged(
+            port,
+            putter,
+            line,
+            *flag,
+            bytes.as_slice(),
+            run,
+        ),
+        LinePart::One(step) => play_step(port, putter, line, *step, run),
     }
 }
 
@@ -175,9 +183,9 @@ pub fn play_window(
 ) -> Result<Passed, Denied>
     requires some { 0 < length bytes.now }
     requires room { line.old.report.arrived + length bytes.now ≤ line.old.most }
-    requires put { line.old.most ≤ (2 ^ 63 - length putter.old.sent) + line.old.handed }
+    requires put { line.old.most ≤ (MOST_SENT - length putter.old.sent) + line.old.handed }
     requires ring { putter.old.ring ≡ port.old.flip.ring }
-    requires some_room { 64 ≤ port.old.flip.capacity }
+    requires some_room { LEAST_FLIP ≤ port.old.flip.capacity }
     requires run { BeginsRun run port.old }
     ensures some { IfOk result (λ passed. 0 < passed.steps) }
     ensures within { IfOk result (λ passed. passed.steps ≤ length bytes.now) }
@@ -203,7 +211,7 @@ fn window_to_give<'a>(
 ) -> Option<&'a [u8; 8]>
     ensures within { IfSome result (λ window. 8 ≤ length bytes.now) }
     ensures first { IfSome result (λ window. take 8 bytes.now ≡ window.now) }
-    ensures open { IfSome result (λ window. IsOpen line.now 8) }
+    ensures open { IfSome result (λ window. TakesWindow line.now 8) }
     ensures clear { IfSome result (λ window. NothingWaits putter.now port.now.flip) }
 {
     let window = bytes.first_chunk::<8>()?;
@@ -222,12 +230,12 @@ fn give_window(
     window: &[u8; 8],
     run: u32,
 ) -> Result<Passed, Denied>
-    requires open { IsOpen line.old 8 }
+    requires open { TakesWindow line.old 8 }
     requires clear { NothingWaits putter.old port.old.flip }
     requires room { line.old.report.arrived + 8 ≤ line.old.most }
-    requires put { line.old.most ≤ (2 ^ 63 - length putter.old.sent) + line.old.handed }
+    requires put { line.old.most ≤ (MOST_SENT - length putter.old.sent) + line.old.handed }
     requires ring { putter.old.ring ≡ port.old.flip.ring }
-    requires some_room { 64 ≤ port.old.flip.capacity }
+    requires some_room { LEAST_FLIP ≤ port.old.flip.capacity }
     requires run { BeginsRun run port.old }
     ensures steps { IfOk result (λ passed. passed.steps ≡ 8) }
     ensures ok { IfOk result (λ passed.
@@ -236,9 +244,8 @@ fn give_window(
     ensures err { IfErr result
         (λ d. StopsSteps d (good_steps window.now) port.old port.new putter.old putter.new line.old line.new run) }
 {
-    port.numbers_tell();
-    let _journal = port.journal();
-    line.accept_window(window);
+    port.known();
+    line.receive_window(window);
     let flushed = port.flush_given(putter, run, window)?;
     Ok(Passed {
         steps: 8,
@@ -257,7 +264,7 @@ fn play_first(
 ) -> Result<Passed, Denied>
     requires some { 0 < length bytes.now }
     requires room { line.old.report.arrived + length bytes.now ≤ line.old.most }
-    requires put { line.old.most ≤ (2 ^ 63 - length putter.old.sent) + line.old.handed }
+    requires put { line.old.most ≤ (MOST_SENT - length putter.old.sent) + line.old.handed }
     requires ring { putter.old.ring ≡ port.old.flip.ring }
     requires run { BeginsRun run port.old }
     ensures some { IfOk result (λ passed. 0 < passed.steps) }
@@ -287,7 +294,7 @@ pub fn play_step(
 ) -> Result<u32, Denied>
     requires good { IsTrue (is_step step) }
     requires room { line.old.report.arrived + length (arrival step) ≤ line.old.most }
-    requires put { line.old.most ≤ (2 ^ 63 - length putter.old.sent) + line.old.handed }
+    requires put { line.old.most ≤ (MOST_SENT - length putter.old.sent) + line.old.handed }
     requires ring { putter.old.ring ≡ port.old.flip.ring }
     requires run { BeginsRun run port.old }
     ensures ok { IfOk result
@@ -322,12 +329,11 @@ fn flush_cut(port: &mut Port, putter: &mut FlipIn, run: u32, most: u32) -> Resul
     requires ring { putter.old.ring ≡ port.old.flip.ring }
     requires run { BeginsRun run port.old }
     requires some { 1 ≤ most }
-    requires few { most ≤ 64 }
+    requires few { most ≤ PIECE }
     ensures ok { IfOk result (λ next. FlushesCut port.old port.new putter.old putter.new run most next) }
     ensures err { IfErr result (λ d. DeniesCut d port.old port.new putter.old putter.new) }
 {
-    port.numbers_tell();
-    let _journal = port.journal();
+    port.known();
     port.hear(putter);
     let flushed = port.flush_piece(run, 0, most)?;
     port.meet(putter);

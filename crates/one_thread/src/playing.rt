@@ -3,19 +3,13 @@
 ghost use Rattle.std.specs.Prelude.{IfOk};
 ghost use Rattle.tty_calls.specs.Limits.{IsWithinLimits};
 ghost use Rattle.tty_calls.specs.Sessions.{session_of};
-ghost use Rattle.one_thread.specs.Played.{ArePlayed, AreInOneOrder};
+ghost use Rattle.play_base.specs.Played.{ArePlayed, AreInOneOrder};
 
 use crate::ports::play_port;
+use play_base::Played;
 use std::alloc::Global;
 use tty_base::{Buffer, NoMemory};
-use tty_calls::{PortEnd, PortRun, Session};
-
-/// What became of the ports of a session: the run of each, and what a report prints of its end.
-#[derive(Drop)]
-pub struct Played {
-    pub runs: Buffer<PortRun>,
-    pub ends: Buffer<PortEnd>,
-}
+use tty_calls::Session;
 
 /// Plays a session on one thread, its ports one after the other. A port whose journal is full is played
 /// no further.

@@ -1,70 +1,17 @@
 //! A port of a session, from its opening to its hangup.
 
-ghost use Rattle.std.specs.Prelude.{◌≡◌, ◌<◌, ◌≤◌, IfOk, IfErr, length};
-ghost use Rattle.tty_base.specs.Lines.{arrival, arrival_count};
-ghost use Rattle.tty_calls.specs.Limits.{IsWithinLimits, character_count};
+ghost use Rattle.std.specs.Prelude.{◌≡◌, ◌<◌, IfOk, IfErr, length};
+ghost use Rattle.tty_calls.specs.Limits.{IsWithinLimits};
 ghost use Rattle.tty_calls.specs.Sessions.{session_of};
-ghost use Rattle.one_thread.specs.Roles.{Scene, scene_of, names_in};
-ghost use Rattle.one_thread.specs.Phases.{HaveSeenAll, IsBeforePhase, IsPortOf, IsFullRun};
-ghost use Rattle.one_thread.specs.Phases.{IsAtEnd, IsStopped, IsLeftOf, EndsRun};
-ghost use Rattle.one_thread.specs.Leaving.{EndsJournal};
-ghost use Rattle.one_thread.specs.Played.{IsPlayedOn, IsRunInOrder};
-ghost use Rattle.one_thread.specs.Stages.{HasAnyOrder, IsOfSceneIn, IsOfScene};
+ghost use Rattle.play_base.specs.Roles.{scene_of, names_in};
+ghost use Rattle.play_base.specs.Phases.{IsBeforePhase, IsStopped};
+ghost use Rattle.play_base.specs.Played.{IsPlayedOn, IsRunInOrder};
 
-use crate::phases::{Station, play_phase, steps_of};
-use crate::roles::counts_of;
-use flip_buffer::{FlipIn, flip};
-use port_core::Port;
+use crate::phases::play_phase;
+use play_base::{Station, hang_up, left_of, open_port, stop};
 use std::alloc::Global;
-use tty_base::{LineStep, NoMemory};
+use tty_base::NoMemory;
 use tty_calls::{Denied, Names, PortEnd, PortRun, Session};
-use uart_line::Line;
-
-/// How many characters may arrive on a port.
-const MOST_ARRIVALS: usize = 262_144;
-
-/// How many entries a port's journal may have.
-pub const JOURNAL_LIMIT: u32 = 4_194_304;
-
-/// At least as many as the characters that arrive on a port: the steps of its line, or the most that
-/// may arrive.
-fn room_on(session: &Session, number: usize) -> u32
-    requires within { IsWithinLimits (session_of session.now) }
-    requires port { number < (session_of session.now).ports }
-    ensures enough { character_count number (session_of session.now).phases ≤ result }
-    ensures few { result ≤ 262144 }
-{
-    let mut steps: usize = 0;
-    for k in 0..session.phases.len() {
-        steps = steps.saturating_add(steps_of(session, number, k).len());
-    }
-    steps.min(MOST_ARRIVALS) as u32
-}
-
-/// A port at the beginning of its session.
-pub fn open_port(
-    alloc: Global,
-    session: &Session,
-    number: usize,
-    names: &Names,
-) -> Result<Station, NoMemory>
-    requires within { IsWithinLimits (session_of session.now) }
-    requires port { number < (session_of session.now).ports }
-    requires names { names.now ≡ names_in (scene_of number session.now) }
-    ensures { IfOk result (λ station. IsBeforePhase (scene_of number session.now) 0 station 0) }
-{
-    let capacity = session.flips.as_slice()[number] as usize;
-    let counts = counts_of(alloc, session, number)?;
-    let steps = vec![in alloc; 0; names.len()]?;
-    let line = Line::new(alloc, room_on(session, number))?;
-    let (putter, taker) = flip(alloc, capacity)?;
-    Ok(Station {
-        port: Port::new(alloc, counts.as_slice(), JOURNAL_LIMIT, taker)?,
-        putter,
-        line,
-        steps,
-    })
-}
 
 /// Plays the phases of a port, one after the other. Answers the number of the next flush run.
 fn play_phases(
@@ -87,66 +34,6 @@ fn play_phases(
         run = play_phase(alloc, session, number, k, names, station, run)?;
     }
     Ok(run)
-}
-
-/// What is left of a port at its end.
-fn left_of(port: Port, line: Line) -> (PortRun, PortEnd)
-    ensures { IsLeftOf port line result.0 result.1 }
-{
-    let (journal, end) = port.into_journal();
-    let run = PortRun {
-        journal,
-        line: line.into_report(),
-    };
-    (run, end)
-}
-
-/// A port whose journal is full, as far as it went.
-pub fn stop(mut port: Port, mut putter: FlipIn, line: Line) -> (PortRun, PortEnd)
-    requires { putter.ring ≡ port.flip.ring }
-    ensures played { (s : Scene)
-        → IsPortOf s port
-        → IsFullRun s port putter line
-        → IsPlayedOn s.port s.session result.0 result.1 }
-    ensures journal { result.0.journal.items ≡ port.journal }
-{
-    port.meet(&mut putter);
-    left_of(port, line)
-}
-
-/// A port whose phases were played, hung up.
-pub fn hang_up(
-    mut port: Port,
-    mut putter: FlipIn,
-    line: Line,
-) -> Result<(PortRun, PortEnd), NoMemory>
-    requires after { port.terminal.phase ≡ length port.counts }
-    requires ring { putter.ring ≡ port.flip.ring }
-    requires sent { port.terminal.sent ≡ length putter.sent }
-    ensures played { (s : Scene)
-        → IsAtEnd s port putter line
-        → IfOk result (λ played. IsPlayedOn s.port s.session played.0 played.1) }
-    ensures ends { (s : Scene)
-        → IsOfSceneIn HasAnyOrder s port
-        → port.terminal.phase ≡ length s.session.phases
-        → IfOk result (λ played. EndsRun s port.journal line.report.overruns.items played.0) }
-    ensures in_order { (s : Scene)
-        → IsOfScene s port
-        → port.terminal.phase ≡ length s.session.phases
-        → HaveSeenAll s port.journal line.report.overruns.items
-        → IfOk result (λ played. IsRunInOrder s.port s.session played.0) }
-    ensures journal { IfOk result (λ played. EndsJournal port played.0.journal.items) }
-{
-    let _journal = port.journal();
-    port.meet(&mut putter);
-    match port.last_hangup(putter) {
-        Ok(()) => Ok(left_of(port, line)),
-        Err(Denied::Full) => Ok(left_of(port, line)),
-        Err(Denied::NoMemory) => {
-            drop(left_of(port, line));
-            Err(NoMemory)
-        }
-    }
 }
 
 /// Plays a port of a session.

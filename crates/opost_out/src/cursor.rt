@@ -1,11 +1,11 @@
 //! The column of all that a line discipline has posted, and output processing at that column.
 
-ghost use Rattle.std.specs.Prelude.{◌≡◌, ◌↔◌, IsTrue, ℕ, ◌≤◌, ◌<◌, ◌+◌, ◌-◌, ◌%◌, ◌^◌, [], ◌∷◌, ◌++◌, length, List};
+ghost use Rattle.std.specs.Prelude.{◌≡◌, ◌↔◌, IsTrue, ℕ, ◌≤◌, ◌<◌, ◌+◌, ◌-◌, ◌%◌, ◌^◌, [], ◌++◌, length, List};
 ghost use Rattle.opost_out.specs.Column.{PostedByte, column_after, column_of};
 ghost use Rattle.opost_out.specs.Column.{column_after_byte, posted_text, posted_text_under};
 ghost use Rattle.opost_out.specs.Posted.{posted_bytes};
 
-use crate::pieces::{CR, NL, Piece, TAB};
+use crate::pieces::{CR, NL, PostedBytes, TAB};
 use std::marker::Model;
 use tty_modes::Modes;
 use tty_modes::places::{IUTF8, OPOST};
@@ -46,7 +46,7 @@ impl Out {
     }
 
     /// Posts one byte: gives the bytes that are posted for it, and moves the column by them.
-    pub fn post(&mut self, b: u8, modes: &Modes) -> Piece
+    pub fn post(&mut self, b: u8, modes: &Modes) -> PostedBytes
         requires { self.old < 2 ^ 63 }
         ensures piece { result ≡ posted_bytes modes.now self.old b }
         ensures column { self.new ≡ column_after self.old (posted_text_under modes.now result) }
@@ -56,7 +56,7 @@ impl Out {
     {
         if is_plain(b) {
             self.column += 1;
-            return Piece::of_byte(b);
+            return PostedBytes::of_byte(b);
         }
         let piece = self.would(b, modes);
         self.column = column_after(self.column, piece.as_slice(), modes.has(IUTF8));
@@ -79,17 +79,17 @@ impl Out {
     }
 
     /// The bytes that `post` would give. Nothing changes.
-    pub fn would(&self, b: u8, modes: &Modes) -> Piece
+    pub fn would(&self, b: u8, modes: &Modes) -> PostedBytes
         ensures { result ≡ posted_bytes modes.now self.now b }
     {
         if !modes.has(OPOST) {
-            return Piece::of_byte(b);
+            return PostedBytes::of_byte(b);
         }
         match b {
-            NL => Piece::of_newline(modes),
-            CR => Piece::of_return(modes, self.column),
-            TAB => Piece::of_tab(modes, self.column),
-            _ => Piece::of_byte(b),
+            NL => PostedBytes::of_newline(modes),
+            CR => PostedBytes::of_return(modes, self.column),
+            TAB => PostedBytes::of_tab(modes, self.column),
+            _ => PostedBytes::of_byte(b),
         }
     }
 }

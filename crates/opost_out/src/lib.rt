@@ -5,4 +5,4 @@ mod cursor;
 mod pieces;
 
 pub use cursor::{Out, column_of_more};
-pub use pieces::Piece;
+pub use pieces::PostedBytes;

@@ -16,11 +16,11 @@ pub(crate) const TAB: u8 = 9;
 
 /// The bytes that are posted for one byte: at most 8.
 #[derive(Debug, Drop)]
-pub struct Piece {
+pub struct PostedBytes {
     bytes: ArrayVec<u8, 8>,
 }
 
-impl Model for Piece {
+impl Model for PostedBytes {
     ghost use Rattle.std.specs.Prelude.{List, ℕ};
 
     ghost Value = { List ℕ };
@@ -28,7 +28,7 @@ impl Model for Piece {
     ghost view = { λ p. p.bytes.items };
 }
 
-impl Piece {
+impl PostedBytes {
     /// The bytes, in order.
     pub fn as_slice(&self) -> &[u8]
         ensures bytes { result.now ≡ self.now }
@@ -52,16 +52,16 @@ impl Piece {
         self.bytes.is_empty()
     }
 
-    pub(crate) fn of_byte(byte: u8) -> Piece
+    pub(crate) fn of_byte(byte: u8) -> PostedBytes
         ensures { result ≡ byte ∷ [] }
     {
         let mut bytes = ArrayVec::new();
         bytes.push(byte);
-        Piece { bytes }
+        PostedBytes { bytes }
     }
 
     /// What is posted for NL.
-    pub(crate) fn of_newline(modes: &Modes) -> Piece
+    pub(crate) fn of_newline(modes: &Modes) -> PostedBytes
         ensures { result ≡ newline_bytes modes.now }
     {
         let mut bytes = ArrayVec::new();
@@ -69,32 +69,32 @@ impl Piece {
             bytes.push(CR);
         }
         bytes.push(NL);
-        Piece { bytes }
+        PostedBytes { bytes }
     }
 
     /// What is posted for CR at a column.
-    pub(crate) fn of_return(modes: &Modes, column: u64) -> Piece
+    pub(crate) fn of_return(modes: &Modes, column: u64) -> PostedBytes
         ensures { result ≡ return_bytes modes.now column }
     {
         let mut bytes = ArrayVec::new();
         if !(modes.has(ONOCR) && column == 0) {
             bytes.push(if modes.has(OCRNL) { NL } else { CR });
         }
-        Piece { bytes }
+        PostedBytes { bytes }
     }
 
     /// What is posted for TAB at a column.
-    pub(crate) fn of_tab(modes: &Modes, column: u64) -> Piece
+    pub(crate) fn of_tab(modes: &Modes, column: u64) -> PostedBytes
         ensures { result ≡ tab_bytes modes.now column }
     {
         if modes.has(TAB3) {
-            Piece::of_blanks(8 - column % 8)
+            PostedBytes::of_blanks(8 - column % 8)
         } else {
-            Piece::of_byte(TAB)
+            PostedBytes::of_byte(TAB)
         }
     }
 
-    fn of_blanks(count: u64) -> Piece
+    fn of_blanks(count: u64) -> PostedBytes
         requires { count ≤ 8 }
         ensures { result ≡ replicate count 32 }
     {
@@ -102,6 +102,6 @@ impl Piece {
         for _ in 0..count {
             bytes.push(b' ');
         }
-        Piece { bytes }
+        PostedBytes { bytes }
     }
 }

@@ -11,10 +11,10 @@ use Rattle.std.proofs.Math.Seq.{get_or-append_seam}
 use Rattle.tty_calls.specs.Plain.{PlainCall}
 use Rattle.tty_calls.specs.Sessions.{PlainScript, PlainPhase, PlainSession, scripts_on}
 use Rattle.tty_calls.specs.Sessions.{scripts_over, names_of, calls_under, calls_of, call_at}
-use Rattle.tty_terminal.specs.Runs.{Grows}
-use Rattle.journal_check.proofs.NameLemmas.{get_append}
-use Rattle.one_thread.proofs.NameLemmas.{eq_name}
-use Rattle.journal_check.specs.Legal.{phase_at, name_at, first_step, steps_in}
+use Rattle.tty_terminal.specs.Runs.{KnowsMore}
+use Rattle.legal_runs.proofs.NameLemmas.{get_append}
+use Rattle.play_base.proofs.NameLemmas.{eq_name}
+use Rattle.legal_runs.specs.Legal.{phase_at, name_at, first_step, steps_in}
 use Rattle.order_laws.specs.Growth.{names_in, HasShape, Grew, AddsCall, with_call, joined}
 use Rattle.order_laws.proofs.Shapes.{name_of, names_same, name_same}
 
@@ -146,7 +146,7 @@ call_more p k session later name h (Some n) step call e =
 
 calls_grow : (p k : ℕ) (session later : PlainSession) (name : List ℕ)
     → AddsCall p k session later name
-    → Grows (call_at p session) (call_at p later)
+    → KnowsMore (call_at p session) (call_at p later)
 calls_grow p k session later name h c step call e =
     let same = names_same p session later (shape_stays p k session later name h) in
     subst

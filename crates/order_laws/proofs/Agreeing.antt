@@ -8,17 +8,17 @@ use Rattle.tty_calls.specs.declared.journals.Who.{Who}
 use Rattle.tty_calls.specs.Plain.{PlainCall, PlainEntry}
 use Rattle.tty_calls.specs.Sessions.{PlainSession, call_at, counts_on}
 use Rattle.tty_terminal.specs.Terminals.{opening, caller_at}
-use Rattle.tty_terminal.specs.Runs.{Grows, phase_after}
-use Rattle.journal_check.specs.Legal.{IsInPhase, AreInPhases, flip_on}
+use Rattle.tty_terminal.specs.Runs.{KnowsMore, phase_after}
+use Rattle.legal_runs.specs.Legal.{IsInPhase, AreInPhases, flip_on}
 use Rattle.port_core.specs.Ports.{PortValue, call_in, end_entry}
-use Rattle.one_thread.specs.Roles.{Scene, calls_in}
+use Rattle.play_base.specs.Roles.{Scene, calls_in}
 use Rattle.one_thread.specs.Turns.{PlaysIn, IsNextCall, standing_at}
 use Rattle.one_thread.specs.Acts.{InTurn, MakesCall, EndsCalls, HasNoCall}
-use Rattle.one_thread.specs.declared.roles.Role.{Role}
+use Rattle.play_base.specs.declared.roles.Role.{Role}
 use Rattle.one_thread.specs.declared.after_line.Stand.{Stand}
 use Rattle.one_thread.specs.declared.after_line.Turn.TheVariants as turn
 use Rattle.one_thread.proofs.Calling.{role_of}
-use Rattle.one_thread.proofs.Places.{phase_from, leads_phase}
+use Rattle.one_order.proofs.Places.{phase_from, leads_phase}
 use Rattle.order_laws.specs.Agreed.{Agrees}
 
 -- ---- the entries before the last, and the last
@@ -37,7 +37,7 @@ last_phase p session k (x ∷ es) e h = last_phase p session (phase_after x.even
 
 pub before : (s : Scene) (old new : PortValue) (e : PlainEntry)
     → new.journal ≡ old.journal ++ e ∷ []
-    → Grows (call_in old.kept) (call_in new.kept)
+    → KnowsMore (call_in old.kept) (call_in new.kept)
     → Agrees s new
     → Agrees s old
 before s old new e added grows h =
@@ -55,7 +55,7 @@ phases_front p session k (x ∷ es) part h = (h.0, phases_front p session (phase
 
 pub before_all : (s : Scene) (old new : PortValue) (part : List PlainEntry)
     → new.journal ≡ old.journal ++ part
-    → Grows (call_in old.kept) (call_in new.kept)
+    → KnowsMore (call_in old.kept) (call_in new.kept)
     → Agrees s new
     → Agrees s old
 before_all s old new part added grows h =

@@ -15,17 +15,16 @@ use Rattle.tty_terminal.specs.Calls.{outcome_of}
 use Rattle.tty_terminal.specs.Steps.{Allowed, after, nothing_to_flush, is_wait}
 use Rattle.tty_terminal.specs.Standing.{Standing, standing_of, standing_after}
 use Rattle.tty_terminal.specs.Standing.{standing_after_own, standing_after_other, standing_in}
-use Rattle.tty_terminal.specs.Runs.{IsRun, Leads, Grows, phase_after}
+use Rattle.tty_terminal.specs.Runs.{IsRun, Leads, KnowsMore, phase_after}
 use Rattle.tty_terminal.proofs.Grown.{after_grown, leads_grown}
 use Rattle.tty_terminal.proofs.StandingLaws.{step_stands, leads_stands}
-use Rattle.journal_check.specs.Legal.{IsInPhase, AreInPhases}
-use Rattle.journal_check.specs.Legal.{is_caller_end, steps_in, flip_on}
-use Rattle.journal_check.proofs.PhaseLemmas.{phase-after}
-use Rattle.journal_check.proofs.Truths.{if_true}
-use Rattle.one_thread.specs.Order.{Place, first_place, next_place, AreInTurn, IsPieceOf, is_most}
-use Rattle.one_thread.specs.Order.{is_after_flush, front_to_flush, due, turn, turn_after, turn_by_rank, is_of_consoles}
-use Rattle.one_thread.specs.Order.{callers_of, cuts_flushed, first_of, can_go_on, is_waiting, must_wait}
-use Rattle.one_thread.proofs.Places.{phase_from, leads_phase}
+use Rattle.legal_runs.specs.Legal.{IsInPhase, AreInPhases, is_caller_end, steps_in, flip_on}
+use Rattle.legal_runs.proofs.PhaseLemmas.{phase-after}
+use Rattle.legal_runs.proofs.Truths.{if_true}
+use Rattle.one_order.specs.Order.{Place, first_place, next_place, AreInTurn, IsPieceOf, is_most, is_after_flush}
+use Rattle.one_order.specs.Order.{front_to_flush, due, turn, turn_after, turn_by_rank, is_of_consoles, callers_of}
+use Rattle.one_order.specs.Order.{cuts_flushed, first_of, can_go_on, is_waiting, must_wait}
+use Rattle.one_order.proofs.Places.{phase_from, leads_phase}
 use Rattle.one_thread.proofs.Ranks.{first_same}
 use Rattle.order_laws.specs.Growth.{HasShape, Grew, KeepsEnded}
 use Rattle.order_laws.proofs.Shapes.{phases_same, counts_same, cuts_same, callers_same, caller_same}
@@ -36,7 +35,7 @@ use Rattle.order_laws.proofs.Waits.{KnowsAll, knows_after, knows_first}
 -- the two sessions, on a port
 record Pair (p : ℕ) (session later : PlainSession) : Type 0 where
   shape : HasShape p session later
-  calls : Grows (call_at p session) (call_at p later)
+  calls : KnowsMore (call_at p session) (call_at p later)
 
 can_case : (waits over x y : Bool)
     → (waits ≡ true → x ≡ y)

@@ -7,19 +7,21 @@ use Rattle.tty_base.specs.declared.characters.Flagged.{Flagged}
 use Rattle.tty_calls.specs.declared.sessions.Script.{Script}
 use Rattle.tty_calls.specs.Plain.{PlainCall, PlainEntry}
 use Rattle.tty_calls.specs.Sessions.{line_on, ticks_on}
-use Rattle.tty_terminal.specs.Runs.{Grows}
-use Rattle.journal_check.specs.Legal.{phase_at}
+use Rattle.tty_terminal.specs.Runs.{KnowsMore}
+use Rattle.legal_runs.specs.Legal.{phase_at}
 use Rattle.port_core.specs.Attempts.{PlainTried}
 use Rattle.port_core.specs.Ports.{PlainKept, PortValue, IsPort, call_in, end_entry}
-use Rattle.one_thread.specs.Order.{is_of_consoles}
-use Rattle.one_thread.specs.Roles.{Scene, role_in, AreRolesOf}
-use Rattle.one_thread.specs.Stages.{HasAnyOrder, HasOneOrder, EndsAfterLineIn}
-use Rattle.one_thread.specs.Lines.{IsAtPhaseIn, PlaysLineIn}
-use Rattle.one_thread.specs.Phases.{HavePlayedInOrder}
+use Rattle.one_order.specs.Order.{is_of_consoles}
+use Rattle.play_base.specs.Roles.{Scene, role_in, AreRolesOf}
+use Rattle.play_base.specs.Scenes.{HasAnyOrder, HasOneOrder}
+use Rattle.one_thread.specs.Stages.{EndsAfterLineIn}
+use Rattle.play_base.specs.Beginning.{IsAtPhaseIn}
+use Rattle.one_thread.specs.Lines.{PlaysLineIn}
+use Rattle.play_base.specs.Phases.{HavePlayedInOrder}
 use Rattle.one_thread.specs.Turns.{role_numbers, IsTurn, IsPossible, IsNextCall, PlaysIn, PlaysOnIn}
 use Rattle.one_thread.specs.Acts.{BeginsLine, PlaysItsLine, AddsEntry, InTurn, PlaysTurn, TriesCall}
 use Rattle.one_thread.specs.Acts.{PlaysCall, HasNoCall, EndsCalls, PlaysLast, PlayingIn, PlaysEnd}
-use Rattle.one_thread.specs.declared.roles.Role.{Role}
+use Rattle.play_base.specs.declared.roles.Role.{Role}
 use Rattle.one_thread.specs.declared.after_line.Stand.{Stand}
 use Rattle.one_thread.specs.declared.after_line.Turn.{Turn}
 use Rattle.one_thread.specs.declared.after_line.Turn.TheVariants as turn
@@ -32,9 +34,9 @@ use Rattle.order_laws.specs.Agreed.{PlaysEachIn, PlaysEach, EndsEachIn, EndsEach
 use Rattle.order_laws.proofs.Agreeing.{before, before_all, next_made, none_left}
 use Rattle.order_laws.proofs.Shapes.{at_phase, phases_same}
 
-pub same_calls : (old new : PortValue) → new.kept ≡ old.kept → Grows (call_in old.kept) (call_in new.kept)
+pub same_calls : (old new : PortValue) → new.kept ≡ old.kept → KnowsMore (call_in old.kept) (call_in new.kept)
 same_calls old new same =
-    subst (λ (ks : List PlainKept). Grows (call_in old.kept) (call_in ks)) (sym same) (λ c step call is. is)
+    subst (λ (ks : List PlainKept). KnowsMore (call_in old.kept) (call_in ks)) (sym same) (λ c step call is. is)
 
 -- the turn is the same in each
 turn_in : (first s : Scene) (roles : List Role) (v : PortValue) (stand : Stand) (next : Turn)

@@ -19,14 +19,14 @@ use Rattle.tty_terminal.specs.Terminals.{Terminal, opening}
 use Rattle.tty_terminal.specs.Steps.{IsAllowed, after}
 use Rattle.tty_terminal.specs.Runs.{Leads, chars_of}
 use Rattle.tty_terminal.proofs.StepLaws.{step_does}
-use Rattle.journal_check.specs.Legal.{line_ends, line_ends_in, session_events, session_events_in, is_phase_end}
-use Rattle.journal_check.specs.Legal.{before_line_end, received_before, sent_by, script_of_first, script_on}
-use Rattle.journal_check.specs.Legal.{flip_on, AreSeen, IsFinishedFrom, IsLegal}
-use Rattle.journal_check.proofs.ReceiptLemmas.{none_first}
-use Rattle.journal_check.proofs.SeenLemmas.{no_phase_end}
-use Rattle.journal_check.proofs.Truths.{nothing_first, nothing_rest}
-use Rattle.one_thread.specs.Order.{AllSeeAll, IsInOneOrder}
-use Rattle.one_thread.proofs.ReceivedLemmas.{script_whole, kept_later}
+use Rattle.legal_runs.specs.Legal.{line_ends, line_ends_in, session_events, session_events_in, is_phase_end}
+use Rattle.legal_runs.specs.Legal.{before_line_end, received_before, sent_by, script_of_first, script_on, flip_on}
+use Rattle.legal_runs.specs.Legal.{AreSeen, IsFinishedFrom, IsLegal}
+use Rattle.legal_runs.proofs.LineLemmas.{none_first}
+use Rattle.legal_runs.proofs.EventLemmas.{no_phase_end}
+use Rattle.legal_runs.proofs.Truths.{nothing_first, nothing_rest}
+use Rattle.one_order.specs.Order.{AllSeeAll}
+use Rattle.play_base.proofs.ReceivedLemmas.{script_whole, kept_later}
 use Rattle.order_laws.specs.Lost.{overruns_after, taken_before_line_end, excess, overruns_in, overruns_before}
 
 -- ---- what some overruns leave of a list
@@ -425,12 +425,12 @@ all_lost p session journal overruns h =
 
 pub loses_of : (p : ℕ) (session : PlainSession) (run : PortRun) (t : Terminal)
     → IsLegal p session run t
-    → IsInOneOrder p session run.journal.items run.line.overruns.items
+    → AllSeeAll p session run.journal.items run.line.overruns.items
     → Loses p session run.journal.items run.line.overruns.items
-loses_of p session run t legal order =
+loses_of p session run t legal seen =
     record {
       shown = legal.account.shown;
-      all = order.seen;
+      all = seen;
       account = legal.account.seen;
       fits = λ k lt.
           let each = each_fits p session run.line.overruns.items 0 session.phases

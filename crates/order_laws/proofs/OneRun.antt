@@ -1,6 +1,6 @@
 -- Two runs of a session in the order of one thread are the same.
 use Rattle.std.proofs.Common.{◌≡◌, ◌≤◌, ◌<◌, inl, inr, ℕ, zero, suc, ◌+◌, ◌-◌, min, List, [], ◌∷◌, ◌++◌, Bool}
-use Rattle.std.proofs.Common.{true, false, not, ◌==◌, if◌then◌else◌, Option, None, Some, is_some, length, map}
+use Rattle.std.proofs.Common.{true, false, not, ◌==◌, ◌||◌, if◌then◌else◌, Option, None, Some, is_some, length, map}
 use Rattle.std.proofs.Common.{take, drop, refl, sym, ◌∙◌, ap, subst, arith, length-append, zero-add, add-zero}
 use Rattle.std.specs.Prelude.{nat_le, IsTrue, MatchBool, All}
 use Rattle.std.proofs.lemmas.List.{append_cancel_left, take-take, drop-drop, drop-take}
@@ -8,6 +8,7 @@ use Rattle.std.proofs.lemmas.List.Concat.{flat_map-append}
 use Rattle.std.proofs.lemmas.Bool.{eq-eqb, eqb-true, false≢true, le-leb, lt-leb, leb-false, and_parts}
 use Rattle.std.proofs.lemmas.Option.{same_Some}
 use Rattle.std.proofs.lemmas.Bool.Decides.{nat_tests}
+use Rattle.tty_base.specs.Sizes.{PIECE}
 use Rattle.tty_base.specs.declared.characters.Flagged.{Flagged}
 use Rattle.tty_base.specs.declared.lines.LineStep.{LineStep}
 use Rattle.tty_base.specs.declared.lines.Overrun.{Overrun}
@@ -30,23 +31,24 @@ use Rattle.tty_terminal.specs.Marks.{Marks, marks_of, marks_after}
 use Rattle.tty_terminal.proofs.MarkLaws.{step_marks}
 use Rattle.tty_terminal.proofs.Agreeing.{leads_agrees}
 use Rattle.tty_terminal.proofs.StepLaws.{sent_of, step_does}
-use Rattle.journal_check.proofs.PhaseLemmas.{phase-after}
-use Rattle.journal_check.specs.Legal.{phase_at, ClockMark, clock_ends, clock_marks, clock_marks_in, line_ends}
-use Rattle.journal_check.specs.Legal.{line_ends_in, session_events, session_events_in, ticks_of, is_phase_end}
-use Rattle.journal_check.specs.Legal.{before_line_end, received_before, sent_by, script_of_first, script_on, flip_on}
-use Rattle.journal_check.specs.Legal.{first_step, steps_in, IsInPhase, AreInPhases, IsFinishedFrom, IsLegal}
-use Rattle.journal_check.specs.Legal.{IsOfPhase, AreSeen}
-use Rattle.journal_check.proofs.Truths.{if_true, nothing_first, nothing_rest}
-use Rattle.one_thread.specs.Order.{Place, first_place, next_place, accepted_front, due}
-use Rattle.one_thread.specs.Order.{turn, cuts_flushed, is_after_flush, IsPieceOf, IsInTurn, AreInTurn, AllSeeAll}
-use Rattle.one_thread.specs.Order.{IsInOneOrder}
-use Rattle.one_thread.proofs.Places.{phase_from}
-use Rattle.one_thread.proofs.ReceivedLemmas.{script_parts, list_grows, kept_later}
+use Rattle.legal_runs.proofs.PhaseLemmas.{phase-after}
+use Rattle.legal_runs.specs.Legal.{phase_at, ClockMark, clock_ends, clock_marks, clock_marks_in, line_ends}
+use Rattle.legal_runs.specs.Legal.{line_ends_in, session_events, session_events_in, ticks_of, is_phase_end}
+use Rattle.legal_runs.specs.Legal.{before_line_end, received_before, sent_by, script_of_first, script_on, flip_on}
+use Rattle.legal_runs.specs.Legal.{first_step, steps_in, IsInPhase, AreInPhases, IsFinishedFrom, IsLegal}
+use Rattle.legal_runs.specs.Legal.{IsOverrunOfPhase}
+use Rattle.legal_runs.specs.Legal.{AreSeen}
+use Rattle.legal_runs.proofs.Truths.{if_true, nothing_first, nothing_rest}
+use Rattle.one_order.specs.Order.{Place, first_place, next_place, accepted_front, due, turn, cuts_flushed}
+use Rattle.one_order.specs.Order.{is_after_flush, IsPieceOf, AreInTurn, AllSeeAll, IsInOneOrder}
+use Rattle.one_order.proofs.Places.{phase_from}
+use Rattle.play_base.proofs.ReceivedLemmas.{script_parts, list_grows, kept_later}
 use Rattle.order_laws.specs.Lost.{overruns_after, taken_before_line_end, excess, overruns_before, IsSameRun}
 use Rattle.order_laws.specs.Growth.{HasShape}
-use Rattle.order_laws.proofs.Growing.{WaitAlike, due_same, turn_same, place_same}
+use Rattle.order_laws.proofs.Growing.{due_same, place_same}
 use Rattle.order_laws.proofs.Shapes.{first_lines_same, counts_same, phases_same, at_phase}
 use Rattle.order_laws.proofs.TheEntry.{Coming, call_event, line_event, clock_event, the_event, coming_with, event_is}
+use Rattle.order_laws.proofs.TheEntry.{is_fixed}
 use Rattle.order_laws.proofs.Losing.{first_or, kept_begins, either_side, all_above}
 use Rattle.order_laws.proofs.Losing.{Loses, lost_before, all_lost, loses_of}
 
@@ -75,7 +77,8 @@ begins_both : (over : Bool) (A A' : Type 0) (B B' : Type 0) (part part' : ℕ) (
 begins_both true A A' B B' part part' x h k = h.1 ∙ sym k.1
 begins_both false A A' B B' part part' x h k = eq-eqb part 0 h.1 ∙ sym (eq-eqb part' 0 k.1)
 
-numbers_of : (p : ℕ) (session later : PlainSession) (s : Place) (who : Who) (step part step' part' : ℕ) (event : PlainEvent)
+numbers_of : (p : ℕ) (session later : PlainSession) (s : Place) (who : Who) (step part step' part' : ℕ)
+    (event : PlainEvent)
     → IsAllowed (call_at p session) (counts_on p session) s.terminal who step part event
     → counts_on p later ≡ counts_on p session
     → IsAllowed (call_at p later) (counts_on p later) s.terminal who step' part' event
@@ -108,19 +111,50 @@ numbers_of p session later s who step part step' part' (hung_up dropped) h count
 
 -- ---- one entry
 
+-- an entry that comes in its turn where each order has the same, and takes its piece
+pub record IsOrderly (p : ℕ) (session : PlainSession) (s : Place) (e : PlainEntry) : Type 0 where
+  pub by_turn : is_fixed session s ≡ true → e.who ≡ turn p session s
+  pub piece : IsPieceOf p session s e.part e.event
+
+abbrev pub AreOrderly : ℕ → PlainSession → Place → List PlainEntry → Type 0
+AreOrderly p session s [] = Unit {0}
+AreOrderly p session s (e ∷ es) = IsOrderly p session s e × AreOrderly p session (next_place (call_at p session) s e) es
+
+-- a journal in such an order, with the overruns of its line
+pub record KeepsOrder (p : ℕ) (session : PlainSession) (journal : List PlainEntry)
+    (overruns : List Overrun) : Type 0 where
+  pub turns : AreOrderly p session (first_place p session) journal
+  pub seen : AllSeeAll p session journal overruns
+
+-- the order of one thread is one
+are_orderly : (p : ℕ) (session : PlainSession) (s : Place) (es : List PlainEntry)
+    → AreInTurn p session s es
+    → AreOrderly p session s es
+are_orderly p session s [] h = tt
+are_orderly p session s (e ∷ es) h = (
+  record { by_turn = λ fixed. h.0.by_turn; piece = h.0.piece },
+  are_orderly p session (next_place (call_at p session) s e) es h.1,
+)
+
+pub keeps_order : (p : ℕ) (session : PlainSession) (journal : List PlainEntry) (overruns : List Overrun)
+    → IsInOneOrder p session journal overruns
+    → KeepsOrder p session journal overruns
+keeps_order p session journal overruns h =
+    record { turns = are_orderly p session (first_place p session) journal h.turns; seen = h.seen }
+
 -- an entry that may come next
 record MayCome (p : ℕ) (session : PlainSession) (s : Place) (e : PlainEntry) : Type 0 where
   allowed : Allowed (call_at p session) (counts_on p session) s.terminal e
-  in_turn : IsInTurn p session s e
+  in_turn : IsOrderly p session s e
   in_phase : IsInPhase p session s.terminal.phase e.who e.step e.event
   within : phase_after e.event s.terminal.phase ≤ length session.phases
 
 -- of what comes, an entry takes characters that were sent, the next line's end and the next mark of the clock
-front_in : (m : ℕ) (xs ys : List Flagged) → take m xs ≡ take m ys → take (min 64 m) xs ≡ take (min 64 m) ys
+front_in : (m : ℕ) (xs ys : List Flagged) → take m xs ≡ take m ys → take (min PIECE m) xs ≡ take (min PIECE m) ys
 front_in m xs ys h =
-    let within : min 64 m ≤ m = omega arith in
-    sym (take-take (min 64 m) m xs within)
-    ∙ (ap (λ (zs : List Flagged). take (min 64 m) zs) h ∙ take-take (min 64 m) m ys within)
+    let within : min PIECE m ≤ m = omega arith in
+    sym (take-take (min PIECE m) m xs within)
+    ∙ (ap (λ (zs : List Flagged). take (min PIECE m) zs) h ∙ take-take (min PIECE m) m ys within)
 
 same_call : (t : Terminal) (waits : Bool) (o : outcomes.Outcome) (xs ys : List Flagged)
     → take (t.sent - t.taken) xs ≡ take (t.sent - t.taken) ys
@@ -187,7 +221,7 @@ other_event p session later s (Caller c) d shape coming =
     (caller_at s.terminal c).next) s.terminal c (call_at p later c (caller_at s.terminal c).next) d.chars))
 other_event p session later s Flusher d shape coming =
     ap (λ (cs : List Flagged). flushed (if s.terminal.line_over
-    then accepted_front s.terminal (take (min 64 (s.terminal.sent - s.terminal.taken)) d.chars)
+    then accepted_front s.terminal (take (min PIECE (s.terminal.sent - s.terminal.taken)) d.chars)
     else cs)) (due_same p session later s shape)
 other_event p session later s Line d shape coming = refl
 other_event p session later s Clock d shape coming = refl
@@ -199,7 +233,7 @@ other_event p session later s Session d shape coming =
 same_entry : (p : ℕ) (session later : PlainSession) (s : Place) (e e' : PlainEntry) (chars chars' : List Flagged)
     (lines lines' : List ℕ) (marks marks' : List ClockMark)
     → HasShape p session later
-    → turn p session s ≡ turn p later s
+    → e.who ≡ e'.who
     → ((c : ℕ) → e.who ≡ Caller c → coming_call p session s c ≡ coming_call p later s c)
     → MayCome p session s e
     → MayCome p later s e'
@@ -209,10 +243,9 @@ same_entry : (p : ℕ) (session later : PlainSession) (s : Place) (e e' : PlainE
     → clock_marks e.event ++ marks ≡ clock_marks e'.event ++ marks'
     → e ≡ e'
 same_entry p session later s e e' chars chars' lines lines' marks marks'
-    shape turned coming h h' fronts ends clock =
+    shape who coming h h' fronts ends clock =
     let calls = call_at p later in
     let counts = counts_on p later in
-    let who : e.who ≡ e'.who = h.in_turn.by_turn ∙ (turned ∙ sym h'.in_turn.by_turn) in
     let is = event_is p session s e.who e.step e.part e.event chars lines marks h.allowed.1
     h.in_turn.by_turn h.in_turn.piece h.in_phase h.within in
     let is' = event_is p later s e'.who e'.step e'.part e'.event chars' lines' marks' h'.allowed.1
@@ -275,7 +308,7 @@ phases_rise k (e ∷ es) =
 pub record IsRest (p : ℕ) (session : PlainSession) (s : Place) (es : List PlainEntry) : Type 0 where
   pub last : Terminal
   pub leads : Leads (call_at p session) (counts_on p session) s.terminal es last
-  pub turns : AreInTurn p session s es
+  pub turns : AreOrderly p session s es
   pub phases : AreInPhases p session s.terminal.phase es
   pub ends : phase_from s.terminal.phase es ≡ length session.phases
 
@@ -334,8 +367,10 @@ nothing_more : (p : ℕ) (session : PlainSession) (s : Place) (e : PlainEntry) (
 nothing_more p session s e es end h none =
     let may = may_come p session s e es h in
     let past : length session.phases ≤ s.terminal.phase = omega (arith, end) in
+    let fixed : is_fixed session s ≡ true =
+    ap (λ (b : Bool). b || not s.terminal.line_over) (le-leb (length session.phases) s.terminal.phase past) in
     let is : e.who ≡ Session =
-    may.in_turn.by_turn
+    may.in_turn.by_turn fixed
     ∙ if_true (nat_le (length session.phases) s.terminal.phase) Session _
     (le-leb (length session.phases) s.terminal.phase past) in
     let some = session_hangs e.who s.terminal.phase (length session.phases) (call_at p session) (counts_on p session)
@@ -701,6 +736,11 @@ line_ends_only calls counts t who step part caller_ended h is = absurd (no_calle
 line_ends_only calls counts t who step part phase_ended h is = let q = sym h.0 ∙ is in absurd (cc)
 line_ends_only calls counts t who step part (hung_up dropped) h is = let q = sym h.0 ∙ is in absurd (cc)
 
+-- the line is not over
+open_fixed : (past over : Bool) → over ≡ false → (past || not over) ≡ true
+open_fixed true over e = refl
+open_fixed false over e = ap not e
+
 line_turn : (past : Bool) (next : Who) → Line ≡ (if past then Session else next) → past ≡ false
 line_turn true next e = absurd (cc)
 line_turn false next e = refl
@@ -738,7 +778,8 @@ ends_line p session journal overruns s e es n h is =
     let allowed : IsAllowed (call_at p session) (counts_on p session) t e.who e.step e.part (line_ended n) =
     subst IsSo is h.rest.leads.0.1 in
     let over = allowed.1.not_over in
-    let past = line_turn (nat_le (length session.phases) t.phase) _ (sym allowed.0 ∙ h.rest.turns.0.by_turn) in
+    let fixed = open_fixed (nat_le (length session.phases) t.phase) t.line_over over in
+    let past = line_turn (nat_le (length session.phases) t.phase) _ (sym allowed.0 ∙ h.rest.turns.0.by_turn fixed) in
     let ends : Ends p session overruns (t.phase + 0) (n ∷ line_ends_in es) =
     subst (λ (b : Bool). Ends p session overruns (t.phase + one_if b) (n ∷ line_ends_in es)) over
     (subst (λ (event : PlainEvent). Ends p session overruns (lines_over t) (line_ends event ++ line_ends_in es))
@@ -785,8 +826,8 @@ all_see p session later journal (o ∷ os) shape h = (
 
 of_phase : (p : ℕ) (session later : PlainSession) (k : ℕ) (o : Overrun)
     → HasShape p session later
-    → IsOfPhase p session k o
-    → IsOfPhase p later k o
+    → IsOverrunOfPhase p session k o
+    → IsOverrunOfPhase p later k o
 of_phase p session later k o shape h = (
   (let low = h.0 in omega (arith, low, received_same p session later k shape)),
   (let high = h.1 in omega (arith, high, received_same p session later (k + 1) shape)),
@@ -908,11 +949,15 @@ alike_taken journal other phase_ended k over may h at_end = λ i lt.
     (let one = ap one_if may in h i (omega (arith, lt, one)))
 alike_taken journal other (hung_up dropped) k over may h at_end = h
 
--- What two sessions of one shape have in common where their runs stand at one place: the calls of those who wait, and
--- what comes of the caller whose turn it is; and so at the next place.
+-- What two sessions of one shape have in common where their runs stand at one place: whose turn it is, and what comes
+-- of a caller whose it is; and so at the next place.
 pub record StayAlike (p : ℕ) (session later : PlainSession)
     (Are : Place → List PlainEntry → List PlainEntry → Type 0) : Type 0 where
-  pub waiting : (s : Place) (es es' : List PlainEntry) → Are s es es' → WaitAlike p session later s.terminal
+  pub same_who : (s : Place) (e e' : PlainEntry) (es es' : List PlainEntry)
+      → Are s (e ∷ es) (e' ∷ es')
+      → IsRest p session s (e ∷ es)
+      → IsRest p later s (e' ∷ es')
+      → e.who ≡ e'.who
   pub coming : (s : Place) (e e' : PlainEntry) (es es' : List PlainEntry) (c : ℕ)
       → Are s (e ∷ es) (e' ∷ es')
       → IsRest p session s (e ∷ es)
@@ -1006,9 +1051,6 @@ module _ (p : ℕ) (session later : PlainSession) (journal other : List PlainEnt
         alike,
       )
 
-  turn_alike : (s : Place) (es es' : List PlainEntry) → Are s es es' → turn p session s ≡ turn p later s
-  turn_alike s es es' are = turn_same p session later s shape (stay.waiting s es es' are)
-
   -- what comes of the caller who makes the next entry
   coming_alike : (s : Place) (e e' : PlainEntry) (es es' : List PlainEntry)
       → IsLeft p session journal lost s (e ∷ es)
@@ -1018,10 +1060,8 @@ module _ (p : ℕ) (session later : PlainSession) (journal other : List PlainEnt
       → e.who ≡ Caller c
       → coming_call p session s c ≡ coming_call p later s c
   coming_alike s e e' es es' h h' are c who =
-      let may = may_come p session s e es h.rest in
-      let may' = may_come p later s e' es' h'.rest in
-      let who' = may'.in_turn.by_turn ∙ (sym (turn_alike s (e ∷ es) (e' ∷ es') are) ∙ sym may.in_turn.by_turn) in
-      stay.coming s e e' es es' c are h.rest h'.rest who (who' ∙ who)
+      let same = stay.same_who s e e' es es' are h.rest h'.rest in
+      stay.coming s e e' es es' c are h.rest h'.rest who (sym same ∙ who)
 
   entry_alike : (s : Place) (e e' : PlainEntry) (es es' : List PlainEntry)
       → IsLeft p session journal lost s (e ∷ es)
@@ -1034,12 +1074,12 @@ module _ (p : ℕ) (session later : PlainSession) (journal other : List PlainEnt
       let m = t.sent - t.taken in
       let may = may_come p session s e es h.rest in
       let may' = may_come p later s e' es' h'.rest in
-      let turned = turn_alike s (e ∷ es) (e' ∷ es') are in
+      let same = stay.same_who s e e' es es' are h.rest h'.rest in
       let fronts : take m (chars_in e.event ++ chars_of es) ≡ take m (chars_in e'.event ++ chars_of es') =
       ap (λ (cs : List Flagged). take m cs) (sym h.chars)
       ∙ (fronts_of t.sent t.taken (chars_of journal) (chars_of other) alike.sent
       ∙ ap (λ (cs : List Flagged). take m cs) h'.chars) in
-      let who : e'.who ≡ e.who = may'.in_turn.by_turn ∙ (sym turned ∙ sym may.in_turn.by_turn) in
+      let who : e'.who ≡ e.who = sym same in
       let lines : e.who ≡ Line
       → line_event (line_ends e.event ++ line_ends_in es) ≡ line_event (line_ends e'.event ++ line_ends_in es') =
       (λ is.
@@ -1053,7 +1093,7 @@ module _ (p : ℕ) (session later : PlainSession) (journal other : List PlainEnt
       ∙ (ap (λ (n : ℕ). line_ended n) number
       ∙ ap (λ (x : PlainEvent). line_event (line_ends x ++ line_ends_in es')) (sym ended'))) in
       same_entry p session later s e e' (chars_of es) (chars_of es') (line_ends_in es) (line_ends_in es')
-      (clock_marks_in es) (clock_marks_in es') shape turned (coming_alike s e e' es es' h h' are) may may' fronts lines
+      (clock_marks_in es) (clock_marks_in es') shape same (coming_alike s e e' es es' h h' are) may may' fronts lines
       alike.marks
 
   alike_more : (s : Place) (e : PlainEntry) (es es' : List PlainEntry)
@@ -1216,13 +1256,13 @@ comes_to p session overruns k (phase ∷ phases) journal h =
 
 whole_of : (p : ℕ) (session : PlainSession) (run : PortRun) (t : Terminal)
     → IsLegal p session run t
-    → IsInOneOrder p session run.journal.items run.line.overruns.items
+    → KeepsOrder p session run.journal.items run.line.overruns.items
     → Whole p session run.journal.items run.line.overruns.items
-whole_of p session run t h order = record { loses = loses_of p session run t h order; chars = h.account.chars }
+whole_of p session run t h order = record { loses = loses_of p session run t h order.seen; chars = h.account.chars }
 
 left_of : (p : ℕ) (session : PlainSession) (run : PortRun) (t : Terminal)
     → IsLegal p session run t
-    → IsInOneOrder p session run.journal.items run.line.overruns.items
+    → KeepsOrder p session run.journal.items run.line.overruns.items
     → IsLeft p session run.journal.items run.line.overruns.items (first_place p session) run.journal.items
 left_of p session run t h order =
     let comes = comes_to p session run.line.overruns.items 0 session.phases run.journal.items h.account.finished in
@@ -1275,8 +1315,8 @@ pub two_runs : (p : ℕ) (session later : PlainSession) (run other : PortRun) (t
     → StayAlike p session later Are
     → IsLegal p session run t
     → IsLegal p later other u
-    → IsInOneOrder p session run.journal.items run.line.overruns.items
-    → IsInOneOrder p later other.journal.items other.line.overruns.items
+    → KeepsOrder p session run.journal.items run.line.overruns.items
+    → KeepsOrder p later other.journal.items other.line.overruns.items
     → Are (first_place p session) run.journal.items other.journal.items
     → IsSameRun run other × SameRest Are run.journal.items other.journal.items
 two_runs p session later run other t u Are shape clocks stay h h' order order' are =
@@ -1329,13 +1369,15 @@ pub one_run : (p : ℕ) (session : PlainSession) (run other : PortRun) (t u : Te
     → IsInOneOrder p session other.journal.items other.line.overruns.items
     → IsSameRun run other × (t ≡ u)
 one_run p session run other t u h h' order order' =
-    let same = two_runs p session session run other t u (λ s es es'. Unit {0})
+    let same = two_runs p session session run other t u
+    (λ s es es'. AreInTurn p session s es × AreInTurn p session s es')
     (record { consoles = refl; flip = refl; lines = refl; names = refl }) refl
     (record {
-      waiting = λ s es es' are c waits. refl;
+      same_who = λ s e e' es es' are rest rest'. are.0.0.by_turn ∙ sym are.1.0.by_turn;
       coming = λ s e e' es es' c are rest rest' who who'. refl;
-      on = λ s e es es' are rest rest' agrees next. tt;
-    }) h h' order order' tt in (
+      on = λ s e es es' are rest rest' agrees next. (are.0.1, are.1.1);
+    }) h h' (keeps_order p session run.journal.items run.line.overruns.items order)
+    (keeps_order p session other.journal.items other.line.overruns.items order') (order.turns, order'.turns) in (
       same.0,
       leads_to_one (call_at p session) (counts_on p session) (first_place p session).terminal
           run.journal.items t u h.on_the_way.steps

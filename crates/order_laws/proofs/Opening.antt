@@ -12,15 +12,15 @@ use Rattle.uart_line.proofs.OfferedLemmas.{HandsOver-adds}
 use Rattle.tty_calls.specs.Plain.{PlainEntry}
 use Rattle.tty_calls.specs.Limits.{character_count}
 use Rattle.tty_calls.specs.Sessions.{PlainPhase, PlainSession, line_on}
-use Rattle.journal_check.specs.Legal.{script_of_first}
-use Rattle.journal_check.proofs.ReceiptLemmas.{received_none}
-use Rattle.one_thread.specs.Order.{AreInTurn, first_place}
-use Rattle.one_thread.specs.Roles.{Scene}
-use Rattle.one_thread.specs.Stages.{caller_at_rest, place_of}
-use Rattle.one_thread.specs.Lines.{IsAtPhase}
-use Rattle.one_thread.specs.Phases.{IsUpTo, HavePlayedInOrder, IsBeforePhase}
-use Rattle.one_thread.specs.declared.phases.Station.{Station}
-use Rattle.one_thread.proofs.PortLemmas.{first_none, nothing_played}
+use Rattle.legal_runs.specs.Legal.{script_of_first}
+use Rattle.legal_runs.proofs.LineLemmas.{received_none}
+use Rattle.one_order.specs.Order.{AreInTurn, first_place}
+use Rattle.play_base.specs.Roles.{Scene}
+use Rattle.play_base.specs.Scenes.{caller_at_rest, place_of}
+use Rattle.play_base.specs.Beginning.{IsAtPhase}
+use Rattle.play_base.specs.Phases.{IsUpTo, HavePlayedInOrder, IsBeforePhase}
+use Rattle.play_base.specs.declared.stations.Station.{Station}
+use Rattle.play_base.proofs.PortLemmas.{first_none, nothing_played}
 use Rattle.order_laws.specs.Agreed.{Agrees, IsBeforeEach}
 use Rattle.order_laws.proofs.Shapes.{counts_same}
 

@@ -5,6 +5,7 @@ use Rattle.std.proofs.Common.{length, take, min, refl, sym, ◌∙◌, ap, subst
 use Rattle.std.specs.Prelude.{nat_le, IsTrue, MatchBool}
 use Rattle.std.proofs.lemmas.List.{length-map}
 use Rattle.std.proofs.lemmas.Bool.{false≢true, eqb-true, le-leb, lt-leb}
+use Rattle.tty_base.specs.Sizes.{PIECE}
 use Rattle.tty_base.specs.declared.characters.Flagged.{Flagged}
 use Rattle.tty_calls.specs.declared.journals.Who.{Who}
 use Rattle.tty_calls.specs.declared.journals.Who.TheVariants.{Caller, Flusher, Line, Clock, Session}
@@ -17,10 +18,10 @@ use Rattle.tty_terminal.specs.Outcomes as outcomes
 use Rattle.tty_terminal.specs.Calls.{outcome_of}
 use Rattle.tty_terminal.specs.Steps.{quiet, Answers, Drops, MustWait, TakesPart, IsFlush, IsAllowed}
 use Rattle.tty_terminal.specs.Runs.{phase_after}
-use Rattle.journal_check.specs.Legal.{ClockMark, ticks, clock_ends, clock_marks}
-use Rattle.journal_check.specs.Legal.{line_ends, first_step, steps_in, IsInPhase}
-use Rattle.one_thread.specs.Order.{Place, accepted_front, due, turn, is_most, is_after_flush, IsPieceOf}
-use Rattle.journal_check.proofs.Truths.{if_false, if_true}
+use Rattle.legal_runs.specs.Legal.{ClockMark, ticks, clock_ends, clock_marks, line_ends, first_step, steps_in}
+use Rattle.legal_runs.specs.Legal.{IsInPhase}
+use Rattle.one_order.specs.Order.{Place, accepted_front, due, turn, is_most, is_after_flush, IsPieceOf}
+use Rattle.legal_runs.proofs.Truths.{if_false, if_true}
 
 -- ---- what a flush takes
 
@@ -44,17 +45,17 @@ accepted_take t (c ∷ chars) rest (suc m) all few most =
     ∙ sym (if_true (accepts t) _ _ all.0)
 
 most_view : (len taken sent : ℕ) (accepting : Bool)
-    → ((len == 64) || ((taken + len == sent) || not accepting)) ≡ true
-    → (len ≡ 64) ⊎ ((taken + len ≡ sent) ⊎ (accepting ≡ false))
-most_view len taken sent accepting e = cases (len == 64) (taken + len == sent) accepting refl refl refl e
+    → ((len == PIECE) || ((taken + len == sent) || not accepting)) ≡ true
+    → (len ≡ PIECE) ⊎ ((taken + len ≡ sent) ⊎ (accepting ≡ false))
+most_view len taken sent accepting e = cases (len == PIECE) (taken + len == sent) accepting refl refl refl e
   where
     cases : (a b c : Bool)
-        → (len == 64) ≡ a
+        → (len == PIECE) ≡ a
         → (taken + len == sent) ≡ b
         → accepting ≡ c
         → (a || (b || not c)) ≡ true
-        → (len ≡ 64) ⊎ ((taken + len ≡ sent) ⊎ (accepting ≡ false))
-    cases true b c ea eb ec k = inl (eqb-true len 64 ea)
+        → (len ≡ PIECE) ⊎ ((taken + len ≡ sent) ⊎ (accepting ≡ false))
+    cases true b c ea eb ec k = inl (eqb-true len PIECE ea)
     cases false true c ea eb ec k = inr (inl (eqb-true (taken + len) sent eb))
     cases false false false ea eb ec k = inr (inr ec)
     cases false false true ea eb ec k = absurd (false≢true k)
@@ -70,7 +71,7 @@ pub record Coming : Type 0 where
 abbrev pub piece_of : ℕ → PlainSession → Place → List Flagged → List Flagged
 piece_of p session s chars =
     if s.terminal.line_over
-    then accepted_front s.terminal (take (min 64 (s.terminal.sent - s.terminal.taken)) chars)
+    then accepted_front s.terminal (take (min PIECE (s.terminal.sent - s.terminal.taken)) chars)
     else due p session s
 
 abbrev pub call_event : Terminal → Bool → outcomes.Outcome → List Flagged → PlainEvent
@@ -156,32 +157,37 @@ flushed_is : (p : ℕ) (session : PlainSession) (s : Place) (step part : ℕ) (c
 flushed_is p session s step part chars rest true e h piece =
     let few = h.few in
     let within = h.sent e in
-    let few_of : length chars ≤ min 64 (s.terminal.sent - s.terminal.taken) = omega arith in
-    let whole : (length chars ≡ min 64 (s.terminal.sent - s.terminal.taken))
+    let few_of : length chars ≤ min PIECE (s.terminal.sent - s.terminal.taken) = omega arith in
+    let whole : (length chars ≡ min PIECE (s.terminal.sent - s.terminal.taken))
     ⊎ (accepts (after_characters s.terminal chars) ≡ false) =
     elim
     (most_view (length chars) s.terminal.taken s.terminal.sent (accepts (after_characters s.terminal chars)) piece.0) [
       | inl is ↦ inl (omega arith)
       | inr k ↦ elim k [ inl all ↦ inl (omega arith) | inr full ↦ inr full ]
     ] in
-    accepted_take s.terminal chars rest (min 64 (s.terminal.sent - s.terminal.taken)) h.accepted few_of whole
+    accepted_take s.terminal chars rest (min PIECE (s.terminal.sent - s.terminal.taken)) h.accepted few_of whole
     ∙ sym (if_true s.terminal.line_over _ _ e)
 flushed_is p session s step part chars rest false e h piece = piece.0 ∙ sym (if_false s.terminal.line_over _ _ e)
 
+-- Before the line's end, and past the last phase, each order is that of one thread. Behind the line's end whose turn it
+-- is may be otherwise.
+abbrev pub is_fixed : PlainSession → Place → Bool
+is_fixed session s = nat_le (length session.phases) s.terminal.phase || not s.terminal.line_over
+
 -- a caller has a turn once the line is over
 third_over : (a b d : Bool) (x : Who) (c : ℕ)
-    → Caller c ≡ (if a then Session else if not b then (if d then Line else Flusher) else x)
+    → ((a || not b) ≡ true → Caller c ≡ (if a then Session else if not b then (if d then Line else Flusher) else x))
     → b ≡ true
-third_over true b d x c e = absurd (cc)
-third_over false true d x c e = refl
-third_over false false true x c e = absurd (cc)
-third_over false false false x c e = absurd (cc)
+third_over a true d x c turned = refl
+third_over true false d x c turned = (let e = turned refl in absurd (cc))
+third_over false false true x c turned = (let e = turned refl in absurd (cc))
+third_over false false false x c turned = (let e = turned refl in absurd (cc))
 
 caller_over : (p : ℕ) (session : PlainSession) (s : Place) (c : ℕ)
-    → Caller c ≡ turn p session s
+    → (is_fixed session s ≡ true → Caller c ≡ turn p session s)
     → s.terminal.line_over ≡ true
-caller_over p session s c e = third_over (nat_le (length session.phases) s.terminal.phase) s.terminal.line_over
-    (length (due p session s) == 0) _ c e
+caller_over p session s c turned = third_over (nat_le (length session.phases) s.terminal.phase) s.terminal.line_over
+    (length (due p session s) == 0) _ c turned
 
 abbrev pub coming_with : PlainEvent → List Flagged → List ℕ → List ClockMark → Coming
 coming_with event chars lines marks =
@@ -190,7 +196,7 @@ coming_with event chars lines marks =
 pub event_is : (p : ℕ) (session : PlainSession) (s : Place) (who : Who) (step part : ℕ) (event : PlainEvent)
     (chars : List Flagged) (lines : List ℕ) (marks : List ClockMark)
     → IsAllowed (call_at p session) (counts_on p session) s.terminal who step part event
-    → who ≡ turn p session s
+    → (is_fixed session s ≡ true → who ≡ turn p session s)
     → IsPieceOf p session s part event
     → IsInPhase p session s.terminal.phase who step event
     → phase_after event s.terminal.phase ≤ length session.phases

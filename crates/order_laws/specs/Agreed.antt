@@ -8,21 +8,22 @@ use Rattle.tty_calls.specs.declared.sessions.Script.{Script}
 use Rattle.tty_calls.specs.Plain.{PlainEntry}
 use Rattle.tty_calls.specs.Limits.{IsWithinLimits}
 use Rattle.tty_calls.specs.Sessions.{ticks_on, call_at}
-use Rattle.tty_terminal.specs.Runs.{Grows}
-use Rattle.journal_check.specs.Legal.{AreInPhases, phase_at}
+use Rattle.tty_terminal.specs.Runs.{KnowsMore}
+use Rattle.legal_runs.specs.Legal.{AreInPhases, phase_at}
 use Rattle.port_core.specs.Ports.{PortValue, call_in}
-use Rattle.one_thread.specs.Roles.{Scene, role_in, AreRolesOf}
-use Rattle.one_thread.specs.Stages.{HasOneOrder, EndsAfterLineIn}
-use Rattle.one_thread.specs.Lines.{IsAtPhaseIn}
-use Rattle.one_thread.specs.Phases.{HavePlayedInOrder}
+use Rattle.play_base.specs.Roles.{Scene, role_in, AreRolesOf}
+use Rattle.play_base.specs.Scenes.{HasOneOrder}
+use Rattle.one_thread.specs.Stages.{EndsAfterLineIn}
+use Rattle.play_base.specs.Beginning.{IsAtPhaseIn}
+use Rattle.play_base.specs.Phases.{HavePlayedInOrder}
 use Rattle.one_thread.specs.Acts.{PlayingIn}
-use Rattle.one_thread.specs.declared.roles.Role.{Role}
+use Rattle.play_base.specs.declared.roles.Role.{Role}
 use Rattle.one_thread.specs.declared.after_line.Stand.{Stand}
 use Rattle.order_laws.specs.Growth.{HasShape}
 
 -- the port was asked calls of the session alone, each in its phase, and who ended had no call left there
 pub record Agrees (s : Scene) (v : PortValue) : Type 0 where
-  pub known : Grows (call_in v.kept) (call_at s.port s.session)
+  pub known : KnowsMore (call_in v.kept) (call_at s.port s.session)
   pub in_phases : AreInPhases s.port s.session 0 v.journal
 
 -- a scene like another one: the same port, and its session is the same on it, but for the calls of its callers, and
@@ -54,7 +55,7 @@ pub record AreRolesOfEach (first : Scene) (scripts : Scene → List Script) (rol
 pub record PlaysEachIn (HasOrder : Scene → List PlainEntry → Type 0) (first : Scene) (scripts : Scene → List Script)
     (roles : List Role) (start v : PortValue) (ticks : ℕ) (stand : Stand) : Type 0 where
   pub ticks_are : ticks ≡ ticks_on first.port (phase_at first.session start.terminal.phase)
-  pub grows : Grows (call_in start.kept) (call_in v.kept)
+  pub grows : KnowsMore (call_in start.kept) (call_in v.kept)
   pub each : (s : Scene) → IsLike first s → Agrees s v → PlayingIn HasOrder s (scripts s) roles start v ticks stand
 
 abbrev pub PlaysEach : (first : Scene) → (Scene → List Script) → List Role → (start v : PortValue) → (ticks : ℕ) → Stand
@@ -64,7 +65,7 @@ PlaysEach first scripts roles start v ticks stand = PlaysEachIn HasOneOrder firs
 -- .. up to the end of the phase
 pub record EndsEachIn (HasOrder : Scene → List PlainEntry → Type 0) (first : Scene) (start new : PortValue)
     (putter now : PutterState Flagged) (run : ℕ) : Type 0 where
-  pub grows : Grows (call_in start.kept) (call_in new.kept)
+  pub grows : KnowsMore (call_in start.kept) (call_in new.kept)
   pub each : (s : Scene) → IsLike first s → Agrees s new → EndsAfterLineIn HasOrder s start new putter now run
 
 abbrev pub EndsEach : (first : Scene) → (start new : PortValue) → (putter now : PutterState Flagged) → (run : ℕ)

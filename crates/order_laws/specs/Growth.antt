@@ -3,9 +3,9 @@ use Rattle.std.specs.Prelude.{◌≡◌, ◌≤◌, ◌<◌, ℕ, List, [], ◌�
 use Rattle.tty_calls.specs.Plain.{PlainCall}
 use Rattle.tty_calls.specs.Sessions.{PlainScript, PlainPhase, PlainSession, line_on, scripts_on, calls_under, call_at}
 use Rattle.tty_terminal.specs.Terminals.{Terminal, caller_at}
-use Rattle.tty_terminal.specs.Runs.{Grows}
-use Rattle.journal_check.specs.Legal.{first_step, steps_in, flip_on}
-use Rattle.one_thread.specs.Order.{is_of_consoles}
+use Rattle.tty_terminal.specs.Runs.{KnowsMore}
+use Rattle.legal_runs.specs.Legal.{first_step, steps_in, flip_on}
+use Rattle.one_order.specs.Order.{is_of_consoles}
 
 -- the names of a port's callers in a phase, in the text's order
 abbrev pub names_in : ℕ → PlainPhase → List (List ℕ)
@@ -23,7 +23,7 @@ pub record HasShape (p : ℕ) (session later : PlainSession) : Type 0 where
 -- in phase k a caller may have further ones.
 pub record Grew (p k : ℕ) (session later : PlainSession) : Type 0 where
   pub shape : HasShape p session later
-  pub calls : Grows (call_at p session) (call_at p later)
+  pub calls : KnowsMore (call_at p session) (call_at p later)
   pub first : (j c : ℕ) → j ≤ k → first_step p later j c ≡ first_step p session j c
   pub before : (j c : ℕ) → j < k → steps_in p later j c ≡ steps_in p session j c
   pub now : (c : ℕ) → steps_in p session k c ≤ steps_in p later k c

@@ -5,7 +5,7 @@ use Rattle.tty_calls.specs.declared.journals.PortRun.{PortRun}
 use Rattle.tty_calls.specs.Plain.{PlainEntry}
 use Rattle.tty_calls.specs.Sessions.{PlainSession}
 use Rattle.tty_terminal.specs.Runs.{chars_of}
-use Rattle.journal_check.specs.Legal.{received_before, before_line_end, flip_on}
+use Rattle.legal_runs.specs.Legal.{received_before, before_line_end, flip_on}
 
 -- so many overruns, one after the other, of a full buffer of this capacity, of which so many characters were taken
 -- and before which so many were lost

@@ -2,12 +2,12 @@
 
 ghost use Rattle.std.specs.Prelude.{◌≡◌, ℕ, List, [], ◌∷◌, ◌++◌, Some, slice_get};
 ghost use Rattle.tty_calls.specs.Plain.{PlainCall, PlainEntry};
-ghost use Rattle.tty_terminal.specs.Runs.{Grows};
+ghost use Rattle.tty_terminal.specs.Runs.{KnowsMore};
 ghost use Rattle.port_core.specs.Ports.{PortValue, call_in};
-ghost use Rattle.one_thread.specs.Roles.{Scene};
+ghost use Rattle.play_base.specs.Roles.{Scene};
 ghost use Rattle.one_thread.specs.Turns.{IsNextCall};
 ghost use Rattle.one_thread.specs.Acts.{InTurn, MakesCall, EndsCalls, HasNoCall};
-ghost use Rattle.one_thread.specs.declared.roles.Role.{Role};
+ghost use Rattle.play_base.specs.declared.roles.Role.{Role};
 ghost use Rattle.one_thread.specs.declared.after_line.Stand.{Stand};
 ghost use Rattle.one_thread.specs.declared.after_line.Turn.TheVariants as turn;
 ghost use Rattle.order_laws.specs.Agreed.{Agrees};
@@ -15,7 +15,7 @@ ghost use Rattle.order_laws.specs.Agreed.{Agrees};
 /// A port that agrees with a session agreed with it one entry before.
 pub fn a_port_agreed_before()
     ensures { (s : Scene) (old new : PortValue) (e : PlainEntry) → new.journal ≡ old.journal ++ e ∷ []
-        → Grows (call_in old.kept) (call_in new.kept) → Agrees s new → Agrees s old }
+        → KnowsMore (call_in old.kept) (call_in new.kept) → Agrees s new → Agrees s old }
 {}
 
 /// A caller whose turn it was made a call: where the port agrees with the session then, that was its next one there.

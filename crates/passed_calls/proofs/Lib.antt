@@ -4,3 +4,4 @@ pub mod Ordered
 pub mod Played
 pub mod Mixed
 pub mod Limits
+pub mod Positions

@@ -7,6 +7,7 @@ use Rattle.std.proofs.lemmas.List.{drop_all, drop_more, get_or_past, length-map,
 use Rattle.std.proofs.lemmas.List.Elements.{All-nil, All-cons, All-head, All-tail}
 use Rattle.std.proofs.lemmas.List.Elements.{All-append, All-map, All-take, All-drop}
 use Rattle.std.proofs.lemmas.List.Sums.{sum_by-cons}
+use Rattle.tty_base.specs.Sizes.{MOST_STEPS}
 use Rattle.tty_base.specs.declared.lines.LineStep.{LineStep}
 use Rattle.tty_base.specs.Lines.{arrival_count}
 use Rattle.tty_calls.specs.Limits.{IsCallWithin, IsPhaseWithin, IsWithinLimits, call_count as plain_count}
@@ -239,7 +240,7 @@ pub blocks_within : {P : Type 0} (with_part : PlainPhase → P → BlockPhase) (
     → ((phase : PlainPhase) (part : P) → (with_part phase part).ticks ≡ phase.ticks)
     → IsWithinLimits session
     → All G session.phases
-    → plain_count session.phases + sum_by weight parts ≤ 65536
+    → plain_count session.phases + sum_by weight parts ≤ MOST_STEPS
     → AreBlocksWithin session.ports session.flips (phases_with with_part nothing parts 0 session.phases)
 blocks_within with_part nothing G weight session parts none phase few lines ticks h good calls = record {
   some_ports = h.some_ports;

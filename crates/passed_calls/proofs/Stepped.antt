@@ -9,7 +9,6 @@ use Rattle.std.proofs.lemmas.List.Elements.{filter-append}
 use Rattle.std.proofs.lemmas.List.Sums.{sum_by-cons, sum_by-append}
 use Rattle.std.proofs.lemmas.Bool.{eqb-true}
 use Rattle.std.proofs.lemmas.Slice.Eq.{bytes_eq-Decides}
-use Rattle.tty_calls.specs.Plain.{PlainCall}
 use Rattle.tty_calls.specs.Sessions.{PlainScript, calls_under, scripts_over}
 use Rattle.passed_calls.specs.Blocks.{Block, blocks_on, number_on, steps_under}
 use Rattle.passed_calls.specs.Derived.{Passing, Passed, BlockPhase, blocks_of, by_caller, calls_at}
@@ -60,17 +59,10 @@ steps_last p name before b =
     let one : steps_on p name (b ∷ []) ≡ here p name b + 0 = steps_first p name b [] in
     rw parts (omega (arith, sums, one))
 
--- the calls of one script more
-abbrev calls_here : ℕ → List ℕ → PlainScript → List PlainCall
-calls_here p name s = cond (s.port == p) (cond (bytes_eq s.name name) s.calls []) []
-
 calls_first : (t : Bool) (name : List ℕ) (s : PlainScript) (ss : List PlainScript)
     → calls_under name (cond t (s ∷ ss) ss) ≡ cond t (cond (bytes_eq s.name name) s.calls []) [] ++ calls_under name ss
 calls_first true name s ss = refl
 calls_first false name s ss = refl
-
-nothing_for : (passings : List Passing) (first : ℕ) → calls_for passings first 0 ≡ []
-nothing_for passings first = refl
 
 -- of a block the calls that were passed for its steps, where it is of this port and name
 of_block : (passed : Passed) (all before : List Block) (b : Block) (p : ℕ) (name : List ℕ) (on : Bool) (named : Bool)

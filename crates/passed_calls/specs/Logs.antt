@@ -1,6 +1,5 @@
 -- A log beside the journals of ports: what happened, on which port, and after how many entries of its journal.
-use Rattle.std.specs.Prelude.{ℕ, ◌==◌, ◌≤◌, List, [], ◌∷◌, filter, take}
-use Rattle.tty_calls.specs.Plain.{PlainEntry}
+use Rattle.std.specs.Prelude.{ℕ, ◌==◌, ◌≤◌, List, [], ◌∷◌, filter}
 use Rattle.passed_calls.specs.declared.logs.Logged.{Logged}
 
 -- what was logged of a port
@@ -11,7 +10,3 @@ logged_on p log = filter (λ l. l.port == p) log
 abbrev pub NeverFalls : {E : Type 0} → (from end : ℕ) → List (Logged E) → Type 0
 NeverFalls from end [] = from ≤ end
 NeverFalls from end (l ∷ ls) = (from ≤ l.at) × NeverFalls l.at end ls
-
--- the entries before an event
-abbrev pub before_event : {E : Type 0} → List PlainEntry → Logged E → List PlainEntry
-before_event journal l = take l.at journal

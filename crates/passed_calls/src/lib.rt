@@ -2,17 +2,19 @@
 //! played.
 #![tactic(auto)]
 
+mod counts;
 mod logs;
 mod placed;
 
-ghost use Rattle.std.specs.Prelude.{◌≡◌, ℕ, List, Some, None, slice_get};
+ghost use Rattle.std.specs.Prelude.{◌≡◌, ℕ, List, Some, slice_get};
 ghost use Rattle.tty_calls.specs.Sessions.{scripts_over, names_of, calls_under, PlainSession, call_at};
-ghost use Rattle.passed_calls.specs.Blocks.{Block, blocks_on, names_on, number_on, steps_under};
+ghost use Rattle.passed_calls.specs.Blocks.{blocks_on, names_on, number_on, steps_under};
 ghost use Rattle.tty_calls.specs.Limits.{IsWithinLimits};
 ghost use Rattle.passed_calls.specs.Within.{AreBlocksWithin, ArePassedWithin};
 ghost use Rattle.passed_calls.specs.Derived.{Passing, Passed, BlockPhase, AreInSteps, blocks_of};
 ghost use Rattle.passed_calls.specs.Derived.{by_caller, all_calls, calls_for, passed_phases};
 
+pub use counts::count_in;
 pub use logs::Logged;
 pub use placed::PlacedCall;
 

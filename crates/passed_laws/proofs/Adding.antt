@@ -8,9 +8,9 @@ use Rattle.tty_calls.specs.Plain.{PlainCall}
 use Rattle.tty_calls.specs.Limits.{IsCallWithin, IsWithinLimits}
 use Rattle.tty_calls.specs.Sessions.{PlainSession}
 use Rattle.passed_calls.specs.Derived.{Passing, Passed, BlockPhase, by_caller, calls_at}
-use Rattle.journal_check.specs.Legal.{flip_on}
-use Rattle.one_thread.specs.Order.{is_of_consoles}
-use Rattle.one_thread.specs.Roles.{Scene}
+use Rattle.legal_runs.specs.Legal.{flip_on}
+use Rattle.one_order.specs.Order.{is_of_consoles}
+use Rattle.play_base.specs.Roles.{Scene}
 use Rattle.order_laws.specs.Agreed.{IsLike}
 use Rattle.passed_laws.specs.Passed.{IsPassedBy, IsOfBlocks, passed_more}
 use Rattle.passed_calls.specs.Within.{ArePassedWithin}

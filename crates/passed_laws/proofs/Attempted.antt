@@ -1,5 +1,5 @@
 -- The entry of an attempt, and what it tells of its caller.
-use Rattle.std.proofs.Common.{◌≡◌, ℕ, ◌+◌, ◌==◌, ◌&&◌, Bool, true, false, List, [], ◌∷◌, ◌++◌}
+use Rattle.std.proofs.Common.{◌≡◌, ℕ, ◌+◌, Bool, true, false, List, [], ◌∷◌, ◌++◌}
 use Rattle.std.proofs.Common.{Some, length, refl, sym, ap, ◌∙◌, subst, arith, length-append}
 use Rattle.std.specs.Prelude.{slice_get, is_some, MatchBool}
 use Rattle.std.proofs.lemmas.Bool.{false≢true, ne_eqb, eq-eqb}
@@ -14,10 +14,10 @@ use Rattle.tty_terminal.specs.Steps.{quiet}
 use Rattle.tty_terminal.specs.Runs.{is_of_call}
 use Rattle.port_core.specs.Attempts.{PlainTried, done_by, took_part, must_wait, Attempts}
 use Rattle.port_core.specs.Ports.{PortValue, Appends, with_call, caller_entry}
-use Rattle.one_thread.specs.Roles.{Scene}
+use Rattle.play_base.specs.Roles.{Scene}
 use Rattle.one_thread.specs.Turns.{standing_at, Adds}
 use Rattle.one_thread.specs.Acts.{TriesCall, MakesCall}
-use Rattle.one_thread.specs.declared.roles.Role.{Role}
+use Rattle.play_base.specs.declared.roles.Role.{Role}
 use Rattle.passed_laws.specs.Later.{WasAnswered}
 use Rattle.passed_laws.specs.Begun.{begun_at}
 use Rattle.passed_laws.proofs.InOrders.{same_entry}

@@ -9,7 +9,7 @@ use Rattle.tty_terminal.specs.Standing.{Standing, standing_of, standing_after_ow
 use Rattle.tty_terminal.specs.Runs.{is_of_call}
 use Rattle.tty_terminal.proofs.StandingLaws.{step_stands}
 use Rattle.port_core.specs.Ports.{PortValue}
-use Rattle.one_thread.specs.Roles.{Scene}
+use Rattle.play_base.specs.Roles.{Scene}
 use Rattle.one_thread.specs.Turns.{Adds, standing_at}
 use Rattle.passed_laws.specs.Begun.{HadBegun}
 

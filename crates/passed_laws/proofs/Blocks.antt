@@ -6,8 +6,8 @@ use Rattle.tty_calls.specs.Sessions.{PlainSession, line_on, ticks_on}
 use Rattle.passed_calls.specs.Blocks.{Block, bare, blocks_on}
 use Rattle.passed_calls.specs.Derived.{Passing, Passed, BlockPhase, blocks_of, passed_phases_after}
 use Rattle.passed_calls.proofs.Names.{name_of, names_of_blocks}
-use Rattle.journal_check.specs.Legal.{flip_on}
-use Rattle.one_thread.specs.Order.{is_of_consoles}
+use Rattle.legal_runs.specs.Legal.{flip_on}
+use Rattle.one_order.specs.Order.{is_of_consoles}
 use Rattle.order_laws.specs.Growth.{names_in, HasShape}
 use Rattle.passed_laws.specs.Passed.{IsOfBlocks, IsPassedBy}
 

@@ -12,15 +12,14 @@ use Rattle.tty_calls.specs.declared.sessions.Script.{Script}
 use Rattle.tty_calls.specs.Plain.{PlainCall, PlainEntry}
 use Rattle.tty_calls.specs.Sessions.{PlainScript, PlainSession, script_of, scripts_on, scripts_over, calls_of}
 use Rattle.tty_terminal.specs.Terminals.{Terminal}
-use Rattle.tty_terminal.specs.Runs.{Grows}
-use Rattle.journal_check.specs.Legal.{phase_at, name_at, first_step}
-use Rattle.port_core.specs.Ports.{PlainKept, PortValue, call_in}
-use Rattle.one_thread.specs.Roles.{Scene, names_in, role_in, AreFirstSteps, AreRolesOf}
-use Rattle.one_thread.specs.Casting.{caller_in, HaveSameCallers, own_scripts, cast_of}
-use Rattle.one_thread.specs.Stages.{AreAtFirst}
+use Rattle.legal_runs.specs.Legal.{phase_at, name_at, first_step}
+use Rattle.port_core.specs.Ports.{PortValue}
+use Rattle.play_base.specs.Roles.{Scene, names_in, role_in, AreFirstSteps, AreRolesOf}
+use Rattle.play_base.specs.Casting.{caller_in, HaveSameCallers, own_scripts, cast_of}
+use Rattle.play_base.specs.Scenes.{AreAtFirst}
 use Rattle.one_thread.specs.Acts.{BeginsLine, PlaysItsLine}
-use Rattle.one_thread.specs.declared.roles.Role.{Role}
-use Rattle.one_thread.proofs.RoleLemmas.{roles_found}
+use Rattle.play_base.specs.declared.roles.Role.{Role}
+use Rattle.play_base.proofs.RoleLemmas.{roles_found}
 use Rattle.order_laws.specs.Agreed.{IsBeforeEachIn, AreRolesOfEach}
 use Rattle.order_laws.proofs.InEach.{same_calls}
 use Rattle.order_laws.proofs.Agreeing.{before_all}
@@ -153,7 +152,8 @@ steps_are_first s k t steps h first =
 
 -- ---- the roles of each
 
-pub roles_each : {HasOrder : Scene → List PlainEntry → Type 0} (first : Scene) (callers : List Script) (names : List (List ℕ)) (steps : List ℕ) (roles : List Role)
+pub roles_each : {HasOrder : Scene → List PlainEntry → Type 0} (first : Scene) (callers : List Script)
+    (names : List (List ℕ)) (steps : List ℕ) (roles : List Role)
     (lines : List LineStep) (old mid : PortValue) (putter now : PutterState Flagged) (line played : LineState)
     (run later : ℕ)
     → IsBeforeEachIn HasOrder first old putter line run

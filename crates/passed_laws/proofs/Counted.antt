@@ -9,8 +9,8 @@ use Rattle.passed_calls.specs.Derived.{Passing, Passed, BlockPhase, blocks_of, b
 use Rattle.passed_calls.specs.Derived.{calls_for, passed_scripts, passed_phases_after}
 use Rattle.passed_calls.proofs.Names.{over_phases, names_stay}
 use Rattle.passed_calls.proofs.Stepped.{under_name}
-use Rattle.journal_check.specs.Legal.{name_at, first_step}
-use Rattle.one_thread.proofs.NameLemmas.{number_at}
+use Rattle.legal_runs.specs.Legal.{name_at, first_step}
+use Rattle.play_base.proofs.NameLemmas.{number_at}
 use Rattle.passed_laws.specs.Passed.{steps_named, begin_of, IsPassedBy}
 
 -- a caller has the number of its name

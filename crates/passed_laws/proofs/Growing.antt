@@ -5,17 +5,17 @@ use Rattle.std.proofs.lemmas.Bool.{cases_eq, false≢true}
 use Rattle.tty_calls.specs.Plain.{PlainCall, PlainEntry}
 use Rattle.tty_calls.specs.Sessions.{PlainSession, call_at, counts_on}
 use Rattle.tty_terminal.specs.Terminals.{Terminal, caller_at, opening}
-use Rattle.tty_terminal.specs.Runs.{Grows}
+use Rattle.tty_terminal.specs.Runs.{KnowsMore}
 use Rattle.passed_calls.specs.Blocks.{names_on}
 use Rattle.passed_calls.specs.Derived.{Passing, BlockPhase, blocks_of, all_calls, calls_for}
 use Rattle.passed_calls.proofs.Ordered.{passed_in_order}
-use Rattle.journal_check.specs.Legal.{first_step, flip_on}
-use Rattle.journal_check.proofs.NameLemmas.{get_append, first_next}
+use Rattle.legal_runs.specs.Legal.{first_step, flip_on}
+use Rattle.legal_runs.proofs.NameLemmas.{get_append, first_next}
 use Rattle.port_core.specs.Ports.{PortValue}
 use Rattle.tty_calls.specs.declared.sessions.Script.{Script}
-use Rattle.one_thread.specs.Roles.{Scene}
+use Rattle.play_base.specs.Roles.{Scene}
 use Rattle.one_thread.specs.Turns.{PlaysIn}
-use Rattle.one_thread.specs.declared.roles.Role.{Role}
+use Rattle.play_base.specs.declared.roles.Role.{Role}
 use Rattle.one_thread.specs.declared.after_line.Stand.{Stand}
 use Rattle.order_laws.specs.Growth.{HasShape, Grew, KeepsEnded}
 use Rattle.order_laws.specs.Agreed.{Agrees}
@@ -122,7 +122,7 @@ then_within p k phases c m mine more session later h =
 calls_more : (p k : ℕ) (phases : List BlockPhase) (c : ℕ) (m : Passing) (mine more : ℕ → List Passing)
     (session later : PlainSession)
     → GrowsBy p k phases c m mine more session later
-    → Grows (call_at p session) (call_at p later)
+    → KnowsMore (call_at p session) (call_at p later)
 calls_more p k phases c m mine more session later h d step call is =
     let was : slice_get (all_calls (mine d)) step ≡ Some call =
     sym (calls_all p k phases mine session d step h.by h.up_to) ∙ is in
@@ -181,7 +181,8 @@ keeps_ended p k phases c m mine more session later t h on d over =
 
 -- ---- and the port agrees with it
 
-pub agrees_then : {HasOrder : Scene → List PlainEntry → Type 0} (p : ℕ) (phases : List BlockPhase) (c : ℕ) (m : Passing) (mine more : ℕ → List Passing)
+pub agrees_then : {HasOrder : Scene → List PlainEntry → Type 0} (p : ℕ) (phases : List BlockPhase) (c : ℕ)
+    (m : Passing) (mine more : ℕ → List Passing)
     (session later : PlainSession) (scripts : List Script) (roles : List Role) (v : PortValue) (stand : Stand)
     → PlaysIn HasOrder (record { port = p; session = session }) scripts roles v stand
     → GrowsBy p v.terminal.phase phases c m mine more session later

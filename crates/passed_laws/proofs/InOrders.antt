@@ -19,16 +19,16 @@ use Rattle.passed_calls.specs.Blocks.{names_on}
 use Rattle.passed_calls.specs.Derived.{Passing, BlockPhase, blocks_of, by_caller, all_calls, calls_at}
 use Rattle.passed_calls.specs.Within.{AreBlocksWithin, ArePassedWithin}
 use Rattle.passed_calls.proofs.Limits.{within_limits}
-use Rattle.journal_check.specs.Legal.{phase_at}
+use Rattle.legal_runs.specs.Legal.{phase_at}
 use Rattle.port_core.specs.Attempts.{PlainTried}
 use Rattle.port_core.specs.Ports.{PortValue, call_in, end_entry}
-use Rattle.one_thread.specs.Roles.{Scene}
-use Rattle.one_thread.specs.Stages.{HasAnyOrder}
+use Rattle.play_base.specs.Roles.{Scene}
+use Rattle.play_base.specs.Scenes.{HasAnyOrder}
 use Rattle.one_thread.specs.Turns.{role_numbers, who_of, standing_at, IsPossible}
 use Rattle.one_thread.specs.Turns.{IsNextCall, PlaysIn, PlaysOnIn, TakesTurn}
 use Rattle.one_thread.specs.Acts.{BeginsLine, PlaysItsLine, InTurn, PlaysTurn}
 use Rattle.one_thread.specs.Acts.{InCall, TriesCall, PlaysCall, EndsCalls, InLast, PlaysLast, PlaysEnd}
-use Rattle.one_thread.specs.declared.roles.Role.{Role}
+use Rattle.play_base.specs.declared.roles.Role.{Role}
 use Rattle.one_thread.specs.declared.after_line.Stand.{Stand}
 use Rattle.one_thread.specs.declared.after_line.Turn.{Turn}
 use Rattle.one_thread.specs.declared.after_line.Turn.TheVariants as turn
@@ -142,12 +142,13 @@ turn_goes_on first phases scripts roles start mine old new ticks was now next h 
 
 -- ---- a call
 
-made_begun : (b : Bool) (n : ℕ) → b ≡ true → (if b then n + 1 else n) ≡ n + 1
+pub made_begun : (b : Bool) (n : ℕ) → b ≡ true → (if b then n + 1 else n) ≡ n + 1
 made_begun true n e = refl
 made_begun false n e = absurd (false≢true e)
 
 -- the one that it has begun
-pub begun_is_next : {HasOrder : Scene → List PlainEntry → Type 0} (first : Scene) (phases : List BlockPhase) (scripts : Scene → List Script) (roles : List Role)
+pub begun_is_next : {HasOrder : Scene → List PlainEntry → Type 0} (first : Scene) (phases : List BlockPhase)
+    (scripts : Scene → List Script) (roles : List Role)
     (start : PortValue) (mine : ℕ → List Passing) (v : PortValue) (ticks : ℕ) (stand : Stand) (place : ℕ) (r : Role)
     (call : PlainCall)
     → IsPlayingIn HasOrder first phases scripts roles start mine v ticks stand
@@ -170,7 +171,8 @@ begun_is_next first phases scripts roles start mine v ticks stand place r call h
     }
 
 -- a new one, which it passes down
-pub passed_is_next : {HasOrder : Scene → List PlainEntry → Type 0} (first : Scene) (phases : List BlockPhase) (scripts : Scene → List Script) (roles : List Role)
+pub passed_is_next : {HasOrder : Scene → List PlainEntry → Type 0} (first : Scene) (phases : List BlockPhase)
+    (scripts : Scene → List Script) (roles : List Role)
     (start : PortValue) (mine more : ℕ → List Passing) (m : Passing) (v : PortValue) (ticks : ℕ) (stand : Stand)
     (place : ℕ) (r : Role) (call : PlainCall)
     → IsPlayingIn HasOrder first phases scripts roles start mine v ticks stand

@@ -1,13 +1,14 @@
 -- Journals to which a port can come, and logs that grow.
-use Rattle.std.proofs.Common.{◌≡◌, ◌≤◌, ℕ, ◌+◌, Bool, List, [], ◌∷◌, ◌++◌, Option, length, cond, take}
+use Rattle.std.proofs.Common.{◌≡◌, ◌≤◌, ℕ, ◌+◌, Bool, List, [], ◌∷◌, ◌++◌, Option, length, map, cond, take}
 use Rattle.std.proofs.Common.{refl, sym, ap, ◌∙◌, arith, length-append, append_assoc}
 use Rattle.std.specs.Prelude.{sum, ◌==◌}
 use Rattle.std.proofs.lemmas.Bool.{eq-eqb}
+use Rattle.std.proofs.lemmas.List.{map-append}
 use Rattle.std.proofs.lemmas.List.Elements.{filter-append}
 use Rattle.tty_calls.specs.Plain.{PlainCall, PlainEntry}
 use Rattle.tty_terminal.specs.Terminals.{Terminal, opening}
 use Rattle.tty_terminal.specs.Steps.{after}
-use Rattle.tty_terminal.specs.Runs.{Grows, Leads as Run}
+use Rattle.tty_terminal.specs.Runs.{KnowsMore, Leads as Run}
 use Rattle.tty_terminal.proofs.Grown.{after_grown}
 use Rattle.port_core.specs.Ports.{PortValue, IsPort, call_in}
 use Rattle.passed_calls.specs.declared.logs.Logged.{Logged}
@@ -28,7 +29,7 @@ later_before v w part j by h =
     }
 
 pub run_after : (f g : ℕ → ℕ → Option PlainCall) (counts : List ℕ) (t : Terminal) (es : List PlainEntry) (u : Terminal)
-    → Grows f g
+    → KnowsMore f g
     → Run f counts t es u
     → terminal_after g t es ≡ u
 run_after f g counts t [] u grows h = sym h
@@ -66,3 +67,10 @@ pub on_more : {E : Type 0} (p n : ℕ) (event : E) (log : List (Logged E))
 on_more {E} p n event log =
     filter-append (λ (l : Logged E). l.port == p) log (record { port = p; at = n; event = event } ∷ [])
     ∙ ap (λ (ls : List (Logged E)). logged_on p log ++ ls) (one_on p n event)
+
+pub events_more : {E : Type 0} (p n : ℕ) (event : E) (log : List (Logged E))
+    → map (λ (l : Logged E). l.event) (logged_on p (log ++ record { port = p; at = n; event = event } ∷ []))
+    ≡ map (λ (l : Logged E). l.event) (logged_on p log) ++ event ∷ []
+events_more {E} p n event log =
+    ap (map (λ (l : Logged E). l.event)) (on_more p n event log)
+    ∙ map-append (λ (l : Logged E). l.event) (logged_on p log) (record { port = p; at = n; event = event } ∷ [])

@@ -18,3 +18,11 @@ pub mod Witnessed
 pub mod Possible
 pub mod Attempted
 pub mod Shares
+pub mod Answering
+pub mod Hangups
+pub mod Owned
+pub mod Callings
+pub mod Journeys
+pub mod Fewer
+pub mod Comings
+pub mod Together

@@ -1,6 +1,6 @@
 -- The calls that callers have made, as the port goes on.
-use Rattle.std.proofs.Common.{◌≡◌, ◌⊎◌, inl, inr, ℕ, ◌+◌, Bool, true, false, List, []}
-use Rattle.std.proofs.Common.{◌∷◌, ◌++◌, length, if◌then◌else◌, refl, sym, ap, ◌∙◌, subst}
+use Rattle.std.proofs.Common.{◌≡◌, ◌⊎◌, inl, inr, ℕ, ◌+◌, Bool, true, false, List}
+use Rattle.std.proofs.Common.{length, if◌then◌else◌, refl, sym, ap, ◌∙◌, subst}
 use Rattle.std.proofs.lemmas.Bool.{cases_eq, false≢true, ne_eqb, eq-eqb}
 use Rattle.tty_calls.specs.declared.sessions.Script.{Script}
 use Rattle.tty_calls.specs.declared.journals.Who.{Who}
@@ -10,16 +10,15 @@ use Rattle.tty_calls.specs.Plain.{clock_ended, caller_ended, phase_ended, hung_u
 use Rattle.tty_calls.specs.Sessions.{PlainSession, call_at, counts_on}
 use Rattle.tty_terminal.specs.Terminals.{Terminal, caller_at}
 use Rattle.tty_terminal.specs.Standing.{Standing, standing_of, standing_after_own, standing_after_other, standing_after}
-use Rattle.tty_terminal.specs.Steps.{after}
 use Rattle.tty_terminal.specs.Runs.{is_of_call}
 use Rattle.tty_terminal.proofs.StandingLaws.{step_stands}
 use Rattle.passed_calls.specs.Derived.{Passing, BlockPhase, all_calls}
 use Rattle.passed_calls.proofs.Ordered.{passed_in_order}
 use Rattle.port_core.specs.Ports.{PortValue}
-use Rattle.one_thread.specs.Roles.{Scene}
-use Rattle.one_thread.specs.Stages.{AreAtFirst}
+use Rattle.play_base.specs.Roles.{Scene}
+use Rattle.play_base.specs.Scenes.{AreAtFirst}
 use Rattle.one_thread.specs.Turns.{role_numbers, who_of, Adds, TakesTurn, standing_at}
-use Rattle.one_thread.specs.declared.roles.Role.{Role}
+use Rattle.play_base.specs.declared.roles.Role.{Role}
 use Rattle.one_thread.specs.declared.after_line.Stand.{Stand}
 use Rattle.one_thread.specs.declared.after_line.Turn.{Turn}
 use Rattle.passed_laws.specs.Passed.{begin_of, IsPassedBy, AreBefore, AreMade, made_of, made_by}

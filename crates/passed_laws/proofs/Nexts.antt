@@ -8,12 +8,12 @@ use Rattle.tty_calls.specs.declared.sessions.Script.{Script}
 use Rattle.tty_calls.specs.Plain.{PlainCall, PlainEntry}
 use Rattle.tty_calls.specs.Sessions.{PlainSession, call_at}
 use Rattle.passed_calls.specs.Derived.{Passing, BlockPhase, all_calls}
-use Rattle.journal_check.proofs.NameLemmas.{get_past, first_next}
+use Rattle.legal_runs.proofs.NameLemmas.{get_past, first_next}
 use Rattle.port_core.specs.Ports.{PortValue, call_in}
-use Rattle.one_thread.specs.Roles.{Scene, calls_in}
+use Rattle.play_base.specs.Roles.{Scene, calls_in}
 use Rattle.one_thread.specs.Turns.{PlaysIn, IsNextCall, standing_at}
 use Rattle.one_thread.specs.Acts.{HasNoCall}
-use Rattle.one_thread.specs.declared.roles.Role.{Role}
+use Rattle.play_base.specs.declared.roles.Role.{Role}
 use Rattle.one_thread.specs.declared.after_line.Stand.{Stand}
 use Rattle.one_thread.proofs.Calling.{role_of}
 use Rattle.passed_laws.specs.Passed.{IsPassedBy, AreUpTo, AreMade, GrowsBy}
@@ -28,7 +28,8 @@ some_at : (calls : List PlainCall) (i : ℕ) (call x : PlainCall)
     → slice_get calls i ≡ Some call
 some_at calls i call x at same = at ∙ same
 
-pub next_of_call : {HasOrder : Scene → List PlainEntry → Type 0} (s : Scene) (scripts : List Script) (roles : List Role) (v : PortValue) (stand : Stand) (place : ℕ)
+pub next_of_call : {HasOrder : Scene → List PlainEntry → Type 0} (s : Scene) (scripts : List Script)
+    (roles : List Role) (v : PortValue) (stand : Stand) (place : ℕ)
     (r : Role) (call : PlainCall)
     → PlaysIn HasOrder s scripts roles v stand
     → slice_get roles place ≡ Some r
@@ -52,7 +53,8 @@ next_of_call s scripts roles v stand place r call plays is known high =
     record { role = r; at_place = is; next = some_at calls (next - r.first) call x at (sym there ∙ known) }
 
 -- it has begun this call
-pub next_begun : {HasOrder : Scene → List PlainEntry → Type 0} (s : Scene) (scripts : List Script) (roles : List Role) (v : PortValue) (stand : Stand) (place : ℕ)
+pub next_begun : {HasOrder : Scene → List PlainEntry → Type 0} (s : Scene) (scripts : List Script) (roles : List Role)
+    (v : PortValue) (stand : Stand) (place : ℕ)
     (r : Role) (call : PlainCall)
     → PlaysIn HasOrder s scripts roles v stand
     → slice_get roles place ≡ Some r
@@ -71,7 +73,8 @@ made_between true n e = absurd (false≢true (sym e))
 made_between false n e = refl
 
 -- its calls up to the phase are all that it has passed down
-count_in : {HasOrder : Scene → List PlainEntry → Type 0} (p : ℕ) (phases : List BlockPhase) (mine : ℕ → List Passing) (session : PlainSession) (scripts : List Script)
+count_in : {HasOrder : Scene → List PlainEntry → Type 0} (p : ℕ) (phases : List BlockPhase) (mine : ℕ → List Passing)
+    (session : PlainSession) (scripts : List Script)
     (roles : List Role) (v : PortValue) (stand : Stand) (place : ℕ) (r : Role)
     → PlaysIn HasOrder (record { port = p; session = session }) scripts roles v stand
     → slice_get roles place ≡ Some r
@@ -88,7 +91,8 @@ count_in p phases mine session scripts roles v stand place r plays is by upto =
     let all = first_all p k phases mine session r.number by upto in
     omega arith
 
-pub next_passed : {HasOrder : Scene → List PlainEntry → Type 0} (p : ℕ) (phases : List BlockPhase) (m : Passing) (mine more : ℕ → List Passing)
+pub next_passed : {HasOrder : Scene → List PlainEntry → Type 0} (p : ℕ) (phases : List BlockPhase) (m : Passing)
+    (mine more : ℕ → List Passing)
     (session later : PlainSession) (scripts : List Script) (roles : List Role) (v : PortValue) (stand : Stand)
     (place : ℕ) (r : Role) (call : PlainCall)
     → PlaysIn HasOrder (record { port = p; session = later }) scripts roles v stand
@@ -123,7 +127,8 @@ none_past [] i le = refl
 none_past (x ∷ calls) zero le = absurd (omega arith)
 none_past (x ∷ calls) (suc i) le = none_past calls i (omega arith)
 
-pub none_left : {HasOrder : Scene → List PlainEntry → Type 0} (p : ℕ) (phases : List BlockPhase) (mine : ℕ → List Passing) (session : PlainSession)
+pub none_left : {HasOrder : Scene → List PlainEntry → Type 0} (p : ℕ) (phases : List BlockPhase)
+    (mine : ℕ → List Passing) (session : PlainSession)
     (scripts : List Script) (roles : List Role) (v : PortValue) (stand : Stand) (place : ℕ) (r : Role)
     → PlaysIn HasOrder (record { port = p; session = session }) scripts roles v stand
     → slice_get roles place ≡ Some r

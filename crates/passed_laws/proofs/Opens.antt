@@ -7,12 +7,12 @@ use Rattle.tty_calls.specs.Limits.{IsCallWithin}
 use Rattle.tty_calls.specs.Sessions.{PlainSession}
 use Rattle.tty_terminal.specs.Terminals.{caller_at, begun_of}
 use Rattle.passed_calls.specs.Derived.{Passing, Passed, BlockPhase, passed_phases}
-use Rattle.journal_check.specs.Legal.{AreInPhases}
+use Rattle.legal_runs.specs.Legal.{AreInPhases}
 use Rattle.port_core.specs.Ports.{IsPort}
-use Rattle.one_thread.specs.Roles.{Scene}
-use Rattle.one_thread.specs.Phases.{IsUpTo, IsBeforePhase}
-use Rattle.one_thread.specs.declared.phases.Station.{Station}
-use Rattle.one_thread.proofs.PortLemmas.{first_none}
+use Rattle.play_base.specs.Roles.{Scene}
+use Rattle.play_base.specs.Phases.{IsUpTo, IsBeforePhase}
+use Rattle.play_base.specs.declared.stations.Station.{Station}
+use Rattle.play_base.proofs.PortLemmas.{first_none}
 use Rattle.passed_laws.specs.Passed.{IsOfBlocks, IsPassedBy, AreBefore}
 use Rattle.passed_calls.specs.Within.{AreBlocksWithin, ArePassedWithin}
 use Rattle.passed_laws.specs.Witness.{HasPassed}

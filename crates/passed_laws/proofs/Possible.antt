@@ -6,27 +6,27 @@ use Rattle.tty_base.specs.declared.characters.Flagged.{Flagged}
 use Rattle.uart_line.specs.LineState.{LineState}
 use Rattle.word_ring.specs.Ends.{PutterState}
 use Rattle.tty_calls.specs.declared.sessions.Script.{Script}
-use Rattle.tty_calls.specs.Plain.{PlainCall, PlainEntry, is_caller}
+use Rattle.tty_calls.specs.Plain.{PlainCall, is_caller}
 use Rattle.tty_calls.specs.Sessions.{line_on, ticks_on}
 use Rattle.tty_calls.specs.Limits.{IsCallWithin}
 use Rattle.passed_calls.specs.Derived.{Passing, BlockPhase, calls_at}
 use Rattle.passed_calls.specs.Within.{AreBlocksWithin}
-use Rattle.journal_check.specs.Legal.{phase_at}
+use Rattle.legal_runs.specs.Legal.{phase_at}
 use Rattle.port_core.specs.Attempts.{PlainTried}
 use Rattle.port_core.specs.Ports.{PortValue, IsPort, call_in, end_entry}
-use Rattle.tty_terminal.specs.Runs.{Grows}
-use Rattle.one_thread.specs.Roles.{Scene}
-use Rattle.one_thread.specs.Stages.{HasAnyOrder}
+use Rattle.play_base.specs.Roles.{Scene}
+use Rattle.play_base.specs.Scenes.{HasAnyOrder}
 use Rattle.one_thread.specs.Turns.{role_numbers, who_of, standing_at, IsPossible, PlaysIn, TakesTurn}
 use Rattle.one_thread.specs.Acts.{BeginsLine, PlaysItsLine, AddsEntry, InTurn, PlaysTurn}
 use Rattle.one_thread.specs.Acts.{InCall, TriesCall, PlaysCall, EndsCalls, InLast, PlaysLast, PlaysEnd}
-use Rattle.one_thread.specs.declared.roles.Role.{Role}
+use Rattle.play_base.specs.declared.roles.Role.{Role}
 use Rattle.one_thread.specs.declared.after_line.Stand.{Stand}
 use Rattle.one_thread.specs.declared.after_line.Turn.{Turn}
 use Rattle.one_thread.specs.declared.after_line.Turn.TheVariants as turn
 use Rattle.order_laws.specs.Agreed.{Agrees, IsLike, IsBeforeEachIn, AreRolesOfEach, PlaysEachIn, EndsEachIn}
 use Rattle.order_laws.proofs.Agreeing.{before, next_made, none_left}
-use Rattle.order_laws.proofs.InEach.{same_calls, any_turn_each, any_call_each, any_last_each, any_end_each, any_line_each}
+use Rattle.order_laws.proofs.InEach.{same_calls, any_turn_each, any_call_each, any_last_each, any_end_each}
+use Rattle.order_laws.proofs.InEach.{any_line_each}
 use Rattle.passed_laws.specs.Passed.{begin_of, IsOfBlocks, AreBefore, AreUpTo, PassesMore}
 use Rattle.passed_laws.specs.Witness.{HasPassed, IsPlayingIn, IsCallingIn}
 use Rattle.passed_laws.proofs.InOrders.{turn_of, turn_goes_on, begun_is_next, passed_is_next, call_of, call_goes_on}
@@ -153,7 +153,8 @@ any_end_on first phases scripts roles start mine old new putter now ticks stand 
 
 -- ---- the beginning of a phase
 
-abbrev pub any_begins_line : (first : Scene) (phases : List BlockPhase) (mine : ℕ → List Passing) (lines : List LineStep)
+abbrev pub any_begins_line : (first : Scene) (phases : List BlockPhase) (mine : ℕ → List Passing)
+    (lines : List LineStep)
     (v : PortValue) (putter : PutterState Flagged) (line : LineState) (run : ℕ)
     → IsBeforeEachIn HasAnyOrder first v putter line run
     → HasPassed first phases mine v

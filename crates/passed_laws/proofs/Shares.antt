@@ -1,14 +1,14 @@
 -- The calls of the callers of a phase, among all calls of their session: whatever calls these are.
-use Rattle.std.proofs.Common.{◌≡◌, ◌≤◌, ◌<◌, ℕ, zero, suc, ◌+◌, ◌==◌, ◌||◌, Bool, true, false, cond, List, [], ◌∷◌}
+use Rattle.std.proofs.Common.{◌≡◌, ◌<◌, ℕ, zero, suc, ◌+◌, ◌==◌, ◌||◌, Bool, true, false, cond, List, [], ◌∷◌}
 use Rattle.std.proofs.Common.{◌++◌, Option, None, Some, length, map, filter, take, drop, if◌then◌else◌, refl, sym}
 use Rattle.std.proofs.Common.{ap, ◌∙◌, subst, arith, append-nil, append_assoc, length-append}
-use Rattle.std.specs.Prelude.{flat_map, slice_get, slice_index_or}
+use Rattle.std.specs.Prelude.{flat_map, slice_get}
 use Rattle.std.specs.Str.{bytes_eq}
 use Rattle.std.proofs.lemmas.Bool.{false≢true}
 use Rattle.std.proofs.lemmas.List.Elements.{filter-append}
 use Rattle.std.proofs.lemmas.List.Sums.{sum_by-cons}
-use Rattle.journal_check.proofs.NameLemmas.{same_name}
-use Rattle.one_thread.proofs.NameLemmas.{eq_name, has_name, HaveOwnNames}
+use Rattle.legal_runs.proofs.NameLemmas.{same_name}
+use Rattle.play_base.proofs.NameLemmas.{eq_name, has_name, HaveOwnNames}
 use Rattle.passed_calls.specs.Blocks.{Block, bare, blocks_on, names_on, steps_under}
 use Rattle.passed_calls.specs.Derived.{BlockPhase, blocks_of}
 use Rattle.passed_calls.specs.Scripts.{CallerScript, block_of, calls_named}

@@ -11,16 +11,15 @@ use Rattle.tty_calls.specs.Sessions.{line_on, ticks_on}
 use Rattle.tty_calls.specs.Limits.{IsCallWithin}
 use Rattle.passed_calls.specs.Derived.{Passing, BlockPhase, calls_at}
 use Rattle.passed_calls.specs.Within.{AreBlocksWithin}
-use Rattle.journal_check.specs.Legal.{phase_at}
+use Rattle.legal_runs.specs.Legal.{phase_at}
 use Rattle.port_core.specs.Attempts.{PlainTried}
 use Rattle.port_core.specs.Ports.{PortValue, IsPort, call_in}
-use Rattle.one_thread.specs.Order.{is_of_consoles}
-use Rattle.one_thread.specs.Roles.{Scene}
-use Rattle.one_thread.specs.Stages.{HasOneOrder}
+use Rattle.one_order.specs.Order.{is_of_consoles}
+use Rattle.play_base.specs.Roles.{Scene}
 use Rattle.one_thread.specs.Turns.{role_numbers, who_of, standing_at, IsTurn, IsPossible}
 use Rattle.one_thread.specs.Acts.{BeginsLine, PlaysItsLine, AddsEntry, InTurn, PlaysTurn}
 use Rattle.one_thread.specs.Acts.{InCall, TriesCall, PlaysCall, EndsCalls, InLast, PlaysLast, PlaysEnd}
-use Rattle.one_thread.specs.declared.roles.Role.{Role}
+use Rattle.play_base.specs.declared.roles.Role.{Role}
 use Rattle.one_thread.specs.declared.after_line.Stand.{Stand}
 use Rattle.one_thread.specs.declared.after_line.Turn.{Turn}
 use Rattle.one_thread.specs.declared.after_line.Turn.TheVariants as turn

@@ -4,8 +4,8 @@ use Rattle.tty_calls.specs.declared.sessions.Script.{Script}
 use Rattle.tty_calls.specs.Plain.{PlainCall}
 use Rattle.tty_calls.specs.Sessions.{PlainScript, scripts_on}
 use Rattle.tty_terminal.specs.Terminals.{Terminal, caller_at}
-use Rattle.journal_check.specs.Legal.{phase_at}
-use Rattle.one_thread.specs.Roles.{Scene}
+use Rattle.legal_runs.specs.Legal.{phase_at}
+use Rattle.play_base.specs.Roles.{Scene}
 
 abbrev pub with_calls : Script → List PlainCall → Script
 with_calls s calls = record s { calls = record { items = calls } }

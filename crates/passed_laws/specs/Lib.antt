@@ -4,3 +4,5 @@ pub mod Witness
 pub mod Later
 pub mod Begun
 pub mod Left
+pub mod Sessions
+pub mod Same

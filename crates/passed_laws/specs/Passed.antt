@@ -6,9 +6,9 @@ use Rattle.tty_terminal.specs.Standing.{Standing}
 use Rattle.passed_calls.specs.Blocks.{Block, blocks_on, names_on, steps_under}
 use Rattle.passed_calls.specs.Derived.{Passing, Passed, BlockPhase, AreInSteps}
 use Rattle.passed_calls.specs.Derived.{blocks_of, by_caller, all_calls, passed_phases}
-use Rattle.journal_check.specs.Legal.{flip_on}
+use Rattle.legal_runs.specs.Legal.{flip_on}
 use Rattle.port_core.specs.Ports.{PortValue}
-use Rattle.one_thread.specs.Order.{is_of_consoles}
+use Rattle.one_order.specs.Order.{is_of_consoles}
 use Rattle.one_thread.specs.Turns.{standing_at}
 use Rattle.order_laws.specs.Growth.{names_in}
 

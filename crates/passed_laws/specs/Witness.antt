@@ -6,10 +6,10 @@ use Rattle.tty_calls.specs.Plain.{PlainCall, PlainEntry}
 use Rattle.tty_calls.specs.Sessions.{PlainSession}
 use Rattle.passed_calls.specs.Derived.{Passing, BlockPhase, all_calls}
 use Rattle.port_core.specs.Ports.{PortValue}
-use Rattle.one_thread.specs.Roles.{Scene}
-use Rattle.one_thread.specs.Stages.{HasOneOrder}
+use Rattle.play_base.specs.Roles.{Scene}
+use Rattle.play_base.specs.Scenes.{HasOneOrder}
 use Rattle.one_thread.specs.Turns.{IsNextCall, standing_at}
-use Rattle.one_thread.specs.declared.roles.Role.{Role}
+use Rattle.play_base.specs.declared.roles.Role.{Role}
 use Rattle.one_thread.specs.declared.after_line.Stand.{Stand}
 use Rattle.order_laws.specs.Agreed.{Agrees, IsLike, PlaysEachIn}
 use Rattle.passed_calls.specs.Within.{ArePassedWithin}

@@ -1,4 +1,4 @@
-//! The same in whatever order turns are taken that can be taken.
+//! What is passed down and played, in whatever order turns are taken that can be taken.
 
 ghost use Rattle.std.specs.Prelude.{◌≡◌, ◌<◌, ◌≤◌, ℕ, List, [], ◌∷◌, None, Some, true, false, length, slice_get};
 ghost use Rattle.tty_base.specs.declared.lines.LineStep.{LineStep};
@@ -10,15 +10,15 @@ ghost use Rattle.tty_calls.specs.Plain.{PlainCall, is_caller};
 ghost use Rattle.tty_calls.specs.Limits.{IsCallWithin};
 ghost use Rattle.tty_calls.specs.Sessions.{line_on, ticks_on};
 ghost use Rattle.passed_calls.specs.Derived.{Passing, BlockPhase, calls_at};
-ghost use Rattle.journal_check.specs.Legal.{phase_at};
+ghost use Rattle.legal_runs.specs.Legal.{phase_at};
 ghost use Rattle.port_core.specs.Attempts.{PlainTried};
 ghost use Rattle.port_core.specs.Ports.{PortValue, IsPort, call_in};
-ghost use Rattle.one_thread.specs.Roles.{Scene};
-ghost use Rattle.one_thread.specs.Stages.{HasAnyOrder};
+ghost use Rattle.play_base.specs.Roles.{Scene};
+ghost use Rattle.play_base.specs.Scenes.{HasAnyOrder};
 ghost use Rattle.one_thread.specs.Turns.{role_numbers, who_of, standing_at, IsPossible, TakesTurn};
 ghost use Rattle.one_thread.specs.Acts.{BeginsLine, PlaysItsLine, AddsEntry, InTurn, PlaysTurn, InCall};
 ghost use Rattle.one_thread.specs.Acts.{TriesCall, PlaysCall, EndsCalls, InLast, PlaysLast, PlaysEnd};
-ghost use Rattle.one_thread.specs.declared.roles.Role.{Role};
+ghost use Rattle.play_base.specs.declared.roles.Role.{Role};
 ghost use Rattle.one_thread.specs.declared.after_line.Stand.{Stand};
 ghost use Rattle.one_thread.specs.declared.after_line.Turn.{Turn};
 ghost use Rattle.one_thread.specs.declared.after_line.Turn.TheVariants as turn;
@@ -145,8 +145,8 @@ pub fn phases_end_in_any_order()
         → EndsEachIn HasAnyOrder first start new putter now run × HasPassed first phases mine new }
 {}
 
-/// Each session that agrees with the port took the turn: a flush, a tick or the end of the clock; a call of a caller; and
-/// the end of its calls.
+/// Each session that agrees with the port took the turn: a flush, a tick or the end of the clock; a call of a caller;
+/// and the end of its calls.
 pub fn each_takes_the_turn()
     ensures turn { (first : Scene) (scripts : Scene → List Script) (roles : List Role) (start old new : PortValue)
         (ticks : ℕ) (was now : Stand) (next : Turn)

@@ -7,8 +7,8 @@ use Rattle.tty_calls.specs.declared.journals.Who.TheVariants.{Caller, Flusher, L
 use Rattle.tty_calls.specs.Plain.{PlainEvent, PlainEntry}
 use Rattle.tty_calls.specs.Sessions.{PlainPhase, PlainSession, scripts_on, calls_of}
 use Rattle.tty_terminal.specs.Runs.{phase_after}
-use Rattle.journal_check.specs.Legal.{name_at, first_step, steps_in, IsInPhase, AreInPhases}
-use Rattle.journal_check.proofs.NameLemmas.{first_next}
+use Rattle.legal_runs.specs.Legal.{name_at, first_step, steps_in, IsInPhase, AreInPhases}
+use Rattle.legal_runs.proofs.NameLemmas.{first_next}
 use Rattle.port_core.specs.Ports.{PortValue}
 use Rattle.order_laws.specs.Agreed.{Agrees}
 use Rattle.order_laws.specs.Growth.{HasShape}

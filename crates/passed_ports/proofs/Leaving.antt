@@ -1,7 +1,7 @@
 -- What the callers of a phase have to call, by their roles: whatever calls these are. Behind them may stand others, of
 -- which nothing is said.
 use Rattle.std.proofs.Common.{◌≡◌, ◌≤◌, ◌<◌, ◌⊎◌, inl, inr, ℕ, zero, suc, ◌+◌, ◌==◌, ◌||◌, Bool, true, false, cond}
-use Rattle.std.proofs.Common.{List, [], ◌∷◌, ◌++◌, Option, None, Some, length, map, filter, take, drop}
+use Rattle.std.proofs.Common.{List, [], ◌∷◌, ◌++◌, Option, None, Some, length, map, take, drop}
 use Rattle.std.proofs.Common.{if◌then◌else◌, refl, sym, ap, ◌∙◌, subst, arith, length-append}
 use Rattle.std.specs.Prelude.{All, IsSome, sum_by, slice_get, slice_index_or}
 use Rattle.std.specs.Str.{bytes_eq}
@@ -9,22 +9,24 @@ use Rattle.std.proofs.lemmas.Bool.{false≢true}
 use Rattle.std.proofs.lemmas.List.{length-map}
 use Rattle.std.proofs.lemmas.List.Elements.{All-head, All-tail}
 use Rattle.std.proofs.lemmas.List.Sums.{sum_by-cons, sum_by-append}
+use Rattle.tty_base.specs.Sizes.{MOST_STEPS}
 use Rattle.tty_calls.specs.declared.sessions.Script.{Script}
 use Rattle.tty_calls.specs.Sessions.{PlainScript, script_of, number_in}
-use Rattle.journal_check.proofs.TurnLemmas.{at_number}
-use Rattle.one_thread.specs.Casting.{number_or, IsNumbered, own_scripts, role_for, cast_of}
-use Rattle.one_thread.specs.Roles.{PlainRole, role_in}
+use Rattle.legal_runs.proofs.ScriptLemmas.{at_number}
+use Rattle.play_base.specs.Casting.{number_or, IsNumbered, own_scripts, role_for, cast_of}
+use Rattle.play_base.specs.Roles.{PlainRole, role_in}
 use Rattle.one_thread.specs.Turns.{IsAbsent}
-use Rattle.one_thread.specs.declared.roles.Role.{Role}
-use Rattle.one_thread.proofs.NameLemmas.{eq_name, HaveOwnNames, own_names}
+use Rattle.play_base.specs.declared.roles.Role.{Role}
+use Rattle.play_base.proofs.NameLemmas.{eq_name, HaveOwnNames, own_names}
 use Rattle.passed_calls.specs.declared.placed.PlacedCall.{PlacedCall}
 use Rattle.passed_calls.specs.Blocks.{Block, bare, blocks_on, names_on, steps_under}
 use Rattle.passed_calls.specs.Derived.{BlockPhase, blocks_of}
-use Rattle.passed_calls.specs.Scripts.{AnyCall, CallerScript, block_of, count_in, mixed, mixed_scripts, calls_named, numbered_call}
+use Rattle.passed_calls.specs.Scripts.{AnyCall, CallerScript, block_of, count_in, mixed, mixed_scripts, calls_named}
+use Rattle.passed_calls.specs.Scripts.{numbered_call}
 use Rattle.passed_calls.specs.Within.{IsBlockPhaseWithin, call_count}
 use Rattle.passed_laws.specs.Passed.{steps_named, begin_of}
 use Rattle.passed_laws.proofs.Passings.{first_within}
-use Rattle.passed_laws.proofs.Shares.{on_port, over, named, AreCounted, begin_named, begin_nobody, begin_next}
+use Rattle.passed_laws.proofs.Shares.{on_port, over, named, AreCounted, begin_nobody, begin_next}
 use Rattle.passed_laws.proofs.Shares.{call_of_phase, has, none_named, own_named, Own}
 use Rattle.calls_left.specs.Remaining.{left_at, IsLeftTo}
 
@@ -155,7 +157,7 @@ IsNobodyOf names others c = (name : List ℕ) → slice_get names c ≡ Some nam
 pub record HasShares {C : Type 0} (p k : ℕ) (phases : List BlockPhase) (scripts : List (List (CallerScript C)))
     (plain : List PlainScript) (names others : List (List ℕ)) (ss : List (CallerScript C)) (next : List ℕ)
     : Type 0 where
-  pub few_calls : call_count phases ≤ 65536
+  pub few_calls : call_count phases ≤ MOST_STEPS
   pub at_phase : slice_get scripts k ≡ Some ss
   pub own_names : Own (on_port p ss)
   pub apart : (i : ℕ) (o : CallerScript C) → slice_get (on_port p ss) i ≡ Some o → IsNoneOf others o.name
@@ -237,7 +239,8 @@ left_to {C} p k phases scripts plain names others ss next i c o h is named_c =
       count = omega (arith, here, grows, many);
       each = λ j lt.
           ap (λ (n : ℕ). numbered_call names (over p scripts) c (n + j)) here
-          ∙ (ap (λ (x : Option (List ℕ)). slice_get (calls_named x (over p scripts)) (begin_of p phases k c + j)) named_c
+          ∙ (ap (λ (x : Option (List ℕ)). slice_get (calls_named x (over p scripts)) (begin_of p phases k c + j))
+          named_c
           ∙ (call_of_phase p phases scripts k c j o.name ss name_block counted h.at_phase (omega (arith, lt, many))
           ∙ ap (λ (cs : List C). slice_get cs j) mine));
       few = omega (arith, here, grows, many, few, most);
@@ -323,7 +326,8 @@ shares_left {C} p k phases scripts kept names others steps ss next roles h cast 
           let found : slice_get names r.number ≡ Some (o.0).name =
           ap (λ (m : ℕ). slice_get names m) number
           ∙ (number_there names plain i s.0 h.numbered s.1 ∙ ap (λ (n : List ℕ). Some n) s.2) in
-          subst (IsLeftTo p k phases (numbered_call names (over p scripts)) next r.number) (sym (calls_at own i o.0 o.1))
+          subst (IsLeftTo p k phases (numbered_call names (over p scripts)) next r.number)
+          (sym (calls_at own i o.0 o.1))
           (left_to p k phases scripts (map script_of kept) names others ss next i r.number o.0 h o.1 found);
       absent = λ c gone. elim (option_cases (slice_get names c)) [
         | inl none ↦

@@ -3,3 +3,4 @@ pub mod Played
 pub mod Noting
 pub mod Started
 pub mod Leaving
+pub mod Joining

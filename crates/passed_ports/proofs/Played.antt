@@ -1,28 +1,28 @@
 -- A session that was played, and the port that it agrees with; and the port's journal once it was hung up.
-use Rattle.std.proofs.Common.{◌≡◌, ◌⊎◌, inl, inr, ℕ, ◌==◌, Bool, false, List, [], ◌∷◌, ◌++◌, Option, length, map, take}
+use Rattle.std.proofs.Common.{◌≡◌, inl, inr, ℕ, ◌==◌, false, List, [], ◌∷◌, ◌++◌, Option, length, take}
 use Rattle.std.proofs.Common.{sum, refl, sym, ap, ◌∙◌, append-nil}
 use Rattle.std.specs.Prelude.{slice_index_or}
 use Rattle.std.proofs.lemmas.List.{length-map}
 use Rattle.tty_calls.specs.Plain.{PlainCall, PlainEntry}
-use Rattle.tty_calls.specs.Sessions.{PlainSession, line_on, call_at, counts_on}
+use Rattle.tty_calls.specs.Sessions.{PlainSession, line_on}
 use Rattle.tty_terminal.specs.Terminals.{Terminal, opening, caller_at, has_begun}
 use Rattle.tty_terminal.specs.Steps.{after}
 use Rattle.tty_terminal.specs.Standing.{Standing, standing_after, standing_in, at_first}
 use Rattle.tty_terminal.proofs.StandingLaws.{run_stands}
-use Rattle.journal_check.specs.Legal.{flip_on}
 use Rattle.port_core.specs.Ports.{PortValue, IsPort, call_in, hangup_entry}
-use Rattle.one_thread.specs.Roles.{Scene}
-use Rattle.one_thread.specs.Leaving.{EndsJournal}
-use Rattle.one_thread.specs.Stages.{IsOfSceneIn}
+use Rattle.play_base.specs.Roles.{Scene}
+use Rattle.play_base.specs.Leaving.{EndsJournal}
+use Rattle.play_base.specs.Scenes.{IsOfSceneIn}
 use Rattle.order_laws.specs.Agreed.{Agrees, IsLike}
 use Rattle.passed_calls.specs.Derived.{Passing, BlockPhase, by_caller}
-use Rattle.passed_calls.specs.Journals.{Journal, terminal_after}
+use Rattle.passed_calls.specs.Journals.{terminal_after}
 use Rattle.passed_laws.specs.Passed.{IsPassedBy}
 use Rattle.passed_laws.specs.Witness.{scene_on, HasPassed}
 use Rattle.passed_laws.specs.Later.{IsLater}
 use Rattle.passed_laws.proofs.Adding.{like_first}
 use Rattle.passed_laws.proofs.Blocks.{of_blocks, same_shape}
-use Rattle.passed_ports.specs.Ports.{BlockSession, IsSceneOf, IsPlayedWith}
+use Rattle.passed_laws.specs.Sessions.{BlockSession, journal_in}
+use Rattle.passed_ports.specs.Ports.{IsSceneOf, IsPlayedWith}
 use Rattle.passed_ports.proofs.Alike.{agrees_alike}
 
 pub passed_then : (session : BlockSession) (p : ℕ) (ms : List Passing) (mine : ℕ → List Passing) (played : PlainSession)
@@ -44,7 +44,8 @@ like_played first session ms mine played same scene h =
     (ap (λ n. n == 0) (h.version ∙ sym scene.version))
     (ap (λ (ns : List ℕ). slice_index_or ns first.port 0) (h.flips ∙ sym scene.flips)) h.limits
 
-pub agrees_played : (first : Scene) (session : BlockSession) (v : PortValue) (ms : List Passing) (mine : ℕ → List Passing)
+pub agrees_played : (first : Scene) (session : BlockSession) (v : PortValue) (ms : List Passing)
+    (mine : ℕ → List Passing)
     (played : PlainSession)
     → ((c : ℕ) → by_caller c ms ≡ mine c)
     → IsSceneOf first session
@@ -101,15 +102,8 @@ pub later_then : (v : PortValue) (journal : List PlainEntry)
 later_then v journal (inl same) = ([], same ∙ sym (append-nil v.journal))
 later_then v journal (inr h) = (hangup_entry v h.0 ∷ [], h.1)
 
--- the journal of a port in the session that was played
-abbrev pub journal_in : ℕ → PlainSession → List PlainEntry → Journal
-journal_in p played journal = record {
-  entries = journal;
-  calls = call_at p played;
-  opening = opening (sum (counts_on p played)) (flip_on p played);
-}
-
-pub is_later : {HasOrder : Scene → List PlainEntry → Type 0} (s : Scene) (v : PortValue) (journal rest : List PlainEntry)
+pub is_later : {HasOrder : Scene → List PlainEntry → Type 0} (s : Scene) (v : PortValue)
+    (journal rest : List PlainEntry)
     → IsOfSceneIn HasOrder s v
     → journal ≡ v.journal ++ rest
     → IsLater v (journal_in s.port s.session journal)

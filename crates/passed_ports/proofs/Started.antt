@@ -7,13 +7,18 @@ use Rattle.std.specs.List.{range_with_len}
 use Rattle.std.proofs.lemmas.Bool.{eq-eqb, ne_eqb}
 use Rattle.std.proofs.lemmas.List.Elements.{All-nil, All-cons, All-head, All-tail, All-same, All-filter, filter-append}
 use Rattle.tty_calls.specs.Limits.{IsCallWithin}
+use Rattle.tty_calls.specs.Plain.{PlainCall, PlainEntry}
 use Rattle.tty_terminal.specs.Terminals.{opening}
+use Rattle.tty_terminal.specs.Standing.{Standing, standing_in, at_first}
+use Rattle.tty_terminal.proofs.StandingLaws.{run_stands}
 use Rattle.passed_calls.specs.Derived.{Passing, BlockPhase, by_caller, calls_at}
 use Rattle.passed_calls.specs.Journals.{Journal}
-use Rattle.port_core.specs.Ports.{PortValue, call_in}
-use Rattle.one_thread.specs.Roles.{Scene}
+use Rattle.port_core.specs.Ports.{PortValue, IsPort, call_in}
+use Rattle.play_base.specs.Roles.{Scene}
 use Rattle.passed_laws.specs.Witness.{HasPassed}
+use Rattle.passed_laws.specs.Begun.{begun_at}
 use Rattle.passed_laws.specs.Later.{IsLater}
+use Rattle.passed_laws.specs.Sessions.{begun_calls}
 use Rattle.passed_ports.specs.Ports.{ArePassingsWithin}
 
 abbrev pub one_if : Bool → Passing → List Passing
@@ -109,6 +114,46 @@ now_of v = record { entries = v.journal; calls = call_in v.kept; opening = openi
 
 pub is_now : (v : PortValue) → IsLater v (now_of v)
 is_now v = record { opens = refl; calls = λ c step call is. is; rest = []; entries = sym (append-nil v.journal) }
+
+-- ---- the calls that a port has begun and not answered
+
+abbrev begun_of : (answered : ℕ → ℕ) → (calls : (c step : ℕ) → List PlainCall) → ℕ → Passing
+begun_of answered calls c = record { caller = c; step = answered c; calls = calls c (answered c) }
+
+pub nothing_begun : (answered : ℕ → ℕ) (calls : (c step : ℕ) → List PlainCall) (n : ℕ) (journal : List PlainEntry)
+    → ((c : ℕ) → (standing_in c journal at_first).begun ≡ false)
+    → begun_calls answered calls n journal ≡ []
+nothing_begun answered calls n journal none =
+    none_begun (λ c. (standing_in c journal at_first).begun) (begun_of answered calls) 0 n none
+
+-- what was passed by a caller: what was logged of it, and behind it the call that it has begun, at its next step
+pub begun_last : (v : PortValue) (logged : List Passing) (answered next : ℕ → ℕ)
+    (calls : (c step : ℕ) → List PlainCall) (n c : ℕ)
+    → IsPort v
+    → (c < n → answered c ≡ next c)
+    → (begun_at v c ≡ true → c < n)
+    → by_caller c (logged ++ begun_calls answered calls n v.journal)
+    ≡ by_caller c logged ++ one_if (begun_at v c) (begun_of next calls c)
+begun_last v logged answered next calls n c port counts known =
+    let begun : ℕ → Bool = λ x. (standing_in x v.journal at_first).begun in
+    let of : ℕ → Passing = begun_of answered calls in
+    let same : begun c ≡ begun_at v c =
+    sym (ap (λ (q : Standing). q.begun)
+    (run_stands (call_in v.kept) v.counts v.flip.capacity v.journal v.terminal port.run c)) in
+    filter-append (λ (m : Passing). m.caller == c) logged (ones begun of 0 n)
+    ∙ ap (λ (ms : List Passing). by_caller c logged ++ ms) (elim (below_or c n) [
+      | inl lt ↦
+          some_of begun of 0 n c (λ x. refl) (omega arith) (omega (arith, lt))
+          ∙ λ i. one_if (same i) (record { caller = c; step = counts lt i; calls = calls c (counts lt i) })
+      | inr le ↦
+          past_of begun of 0 n c (λ x. refl) (omega (arith, le))
+          ∙ elim (true_or_false (begun_at v c)) [
+            | inl yes_begun ↦ absurd (let lt = known yes_begun in omega (arith, le, lt))
+            | inr not_begun ↦ sym (ap (λ (b : Bool). one_if b (begun_of next calls c)) not_begun)
+          ]
+    ])
+
+-- ---- limits
 
 tail_of : (P : Passing → Type 0) (b : Bool) (m : Passing) (ms : List Passing) → All P (cond b (m ∷ ms) ms) → All P ms
 tail_of P true m ms h = All-tail P m ms h

@@ -1,15 +1,16 @@
 //! The roles of the callers of a phase, and their next steps.
 
 ghost use Rattle.std.specs.Prelude.{◌≡◌, ◌<◌, ◌≤◌, List, IfOk, IfErr, length, map, slice_set, sum};
+ghost use Rattle.tty_base.specs.Sizes.{MOST_NUMBERED};
 ghost use Rattle.tty_calls.specs.declared.answers.Denied.TheVariants as denied;
 ghost use Rattle.tty_calls.specs.declared.sessions.Script.{Script};
 ghost use Rattle.tty_calls.specs.Sessions.{script_of};
 ghost use Rattle.tty_terminal.specs.Terminals.{caller_at};
-ghost use Rattle.one_thread.specs.Casting.{AreNumbered, HaveSameCallers, cast_of};
-ghost use Rattle.one_thread.specs.Roles.{role_in};
+ghost use Rattle.play_base.specs.Casting.{AreNumbered, HaveSameCallers, cast_of};
+ghost use Rattle.play_base.specs.Roles.{role_in};
 ghost use Rattle.passed_laws.specs.Filled.{AreNextSteps};
 
-use one_thread::{Role, cast};
+use play_base::{Role, cast};
 use port_core::Port;
 use std::alloc::Global;
 use tty_base::NoMemory;
@@ -24,7 +25,7 @@ pub fn cast_in(
     steps: &[u32],
 ) -> Result<Vec<Role>, Denied>
     requires numbered { AreNumbered names.now port (map script_of scripts.now) }
-    requires few { length names.now < 65536 }
+    requires few { length names.now < MOST_NUMBERED }
     requires steps { length steps.now ≡ length names.now }
     ensures ok { IfOk result (λ roles.
         (others : List Script)
@@ -41,7 +42,7 @@ pub fn cast_in(
 /// Notes the next step of each of so many callers.
 pub fn take_steps(port: &Port, steps: &mut [u32])
     requires known { length steps.old ≤ sum port.now.counts }
-    requires few { length steps.old ≤ 65536 }
+    requires few { length steps.old ≤ MOST_NUMBERED }
     ensures { AreNextSteps port.now.terminal (length steps.old) steps.new }
 {
     for caller in 0..steps.len() {
@@ -52,7 +53,7 @@ pub fn take_steps(port: &Port, steps: &mut [u32])
 
 fn next_of(port: &Port, caller: usize) -> u32
     requires known { caller < sum port.now.counts }
-    requires few { caller < 65536 }
+    requires few { caller < MOST_NUMBERED }
     ensures { result ≡ (caller_at port.now.terminal caller).next }
 {
     port.caller(caller as u16).next

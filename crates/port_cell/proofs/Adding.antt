@@ -1,5 +1,6 @@
 -- What a seat with the turn may note, once it has added an entry to the list that it found.
 use Rattle.std.proofs.Common.{◌≡◌, ℕ, ◌+◌, ◌<◌, List, [], ◌∷◌, ◌++◌, false, inl, inr, sym, ap, ◌∙◌, arith}
+use Rattle.port_cell.specs.Word.{GENERATION_END}
 use Rattle.port_cell.specs.declared.kept.Stamped.{Stamped}
 use Rattle.port_cell.specs.Entries.{generation_of, AddsBy}
 use Rattle.port_cell.specs.Views.{bit_of, raises_of}
@@ -33,6 +34,6 @@ module _ {V N E : Type 0} (s : CellSeat V N E) (found now : List (Stamped E)) (e
 
     pub may_note_next : IsAlone s
         → e.after ≡ generation_of found + 1
-        → e.after < 4294967296
+        → e.after < GENERATION_END
         → MayNote s (generation_of now)
     may_note_next only next below = let a = reached in inr (only, next_generation next, omega arith)

@@ -1,11 +1,11 @@
 -- What the rule says of any state between two steps.
-use Rattle.std.proofs.Common.{◌≡◌, ℕ, ◌<◌, ◌≤◌, inl, inr, List, Bool, true, false, slice_index, sym, ap, ◌∙◌, arith}
+use Rattle.std.proofs.Common.{◌≡◌, ℕ, ◌<◌, ◌≤◌, inl, inr, List, true, false, slice_index, sym, ap, ◌∙◌, arith}
 use Rattle.std.proofs.lemmas.Bool.{false≢true}
 use Rattle.port_cell.specs.declared.kept.Stamped.{Stamped}
 use Rattle.port_cell.specs.declared.view.View.{View}
 use Rattle.port_cell.specs.Entries.{generation_of}
-use Rattle.port_cell.specs.Word.{generation_in}
-use Rattle.port_cell.specs.Views.{total, raises_of, users_of, references_of, lone_marks_of}
+use Rattle.port_cell.specs.Word.{CHANGING, generation_in}
+use Rattle.port_cell.specs.Views.{total, users_of, references_of, lone_marks_of}
 use Rattle.port_cell.specs.Rule.{ViewOk}
 use Rattle.port_cell.specs.Laws.{NobodyHoldsBesideOneAlone, GrowsByInstalling, StandsInTurn}
 use Rattle.port_cell.proofs.Totals.{part_le}
@@ -23,7 +23,7 @@ module _ {V N E : Type 0} (name : V → N) (list : V → List (Stamped E)) where
   pub grows_by_installing : GrowsByInstalling name list
   grows_by_installing first seats s r =
       let few_users = few name list first seats s r in
-      let small : total users_of s.views < 2147483648 = omega arith in
+      let small : total users_of s.views < CHANGING = omega arith in
       generation_is (slice_index s.words 0) _ _ _ (word_is name list first seats s r) r.one_mark small ∙ r.grows
 
   saw_latest : (first : V) (latest : List (Stamped E)) (generation : ℕ) (views : List (View N E)) (i : ℕ) (v : View N E)
@@ -37,7 +37,7 @@ module _ {V N E : Type 0} (name : V → N) (list : V → List (Stamped E)) where
   pub stands_in_turn : StandsInTurn name list
   stands_in_turn first seats s r i v at turn =
       let few_users = few name list first seats s r in
-      let small : total users_of s.views < 2147483648 = omega arith in
+      let small : total users_of s.views < CHANGING = omega arith in
       let word : generation_in (slice_index s.words 0) ≡ r.generation =
       generation_is (slice_index s.words 0) _ _ _ (word_is name list first seats s r) r.one_mark small in
       let all = raised_here name list first seats s r i v at turn in

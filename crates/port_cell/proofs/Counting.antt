@@ -2,6 +2,7 @@
 use Rattle.std.proofs.Common.{◌≡◌, ◌≢◌, ℕ, ◌+◌, ◌%◌, ◌<◌, ◌≤◌, List, [], length, set, Bool}
 use Rattle.std.proofs.Common.{true, false, Option, IsSome, bit_and, bit_or, inl, ⊎_elim, refl}
 use Rattle.std.proofs.Common.{sym, ap, ◌∙◌, subst, append-nil, slice_index, true≢false, arith}
+use Rattle.tty_base.specs.Sizes.{MOST_SEATS}
 use mathlib.Core.Option.{some, none}
 use lib.ListN.{get_elem?}
 use Rattle.atomic_table.specs.Table.{State, Allows, step}
@@ -11,12 +12,12 @@ use Rattle.port_cell.specs.declared.view.User.{User}
 use Rattle.port_cell.specs.declared.view.User.TheVariants.{Free, Trying, Held, Marked, Alone}
 use Rattle.port_cell.specs.declared.view.View.{View}
 use Rattle.port_cell.specs.Entries.{generation_of}
-use Rattle.port_cell.specs.Word.{word_of, generation_in}
+use Rattle.port_cell.specs.Word.{CHANGING, GENERATION_END, word_of, generation_in}
 use Rattle.port_cell.specs.Views.{total, Knows, bit_of, user_part, reference_part, mark_part}
 use Rattle.port_cell.specs.Views.{lone_part, turns_of, raises_of, users_of, references_of, marks_of}
 use Rattle.port_cell.specs.Views.{lone_marks_of, installs_of, with_word, with_user, after_install}
 use Rattle.port_cell.specs.Rule.{Rule}
-use Rattle.port_cell.specs.Plays.{SeatState, InTurn, Enters, Leaves, Marks, Looks, Installs}
+use Rattle.port_cell.specs.Plays.{SeatState, HasTurn, Enters, Leaves, Marks, Looks, Installs}
 use Rattle.port_cell.proofs.Totals.{total_set, total_same, total_le, total_few, total_one, part_le, two_le}
 use Rattle.port_cell.proofs.Words.{zero_or_one, none_or_some, three, generation_is}
 use Rattle.port_cell.proofs.Words.{changing_is, users_is, or_bit, and_not_bit}
@@ -67,7 +68,7 @@ module _ {V N E : Type 0} (name : V → N) (list : V → List (Stamped E)) (firs
     pub word_is : slice_index s.words 0 ≡ word_of r.generation (total marks_of s.views) (total users_of s.views)
     word_is = ap (λ ws. slice_index ws 0) r.words
 
-    pub few : total users_of s.views ≤ 4096
+    pub few : total users_of s.views ≤ MOST_SEATS
     few = let a = total_few users_of (λ v. counts_few v.user) s.views in let b = r.room in omega arith
 
     pub holds_few : total references_of s.views ≤ total users_of s.views
@@ -93,7 +94,7 @@ module _ {V N E : Type 0} (name : V → N) (list : V → List (Stamped E)) (firs
         → get_elem? s.views i ≡ some v
         → IsSome v.name
         → generation_in w ≡ r.generation
-        → InTurn v w
+        → HasTurn v w
     in_turn i v w at named is turn low =
         let none : raises_of v ≡ 0 = ap bit_of low in
         let all = raised_here i v at turn in
@@ -108,7 +109,7 @@ module _ {V N E : Type 0} (name : V → N) (list : V → List (Stamped E)) (firs
         → get_elem? s.views i ≡ some v
         → IsSome v.name
         → Knows next u
-        → (raised ≡ true → (v.turn ≡ true) × (lone_part u ≡ 1) × (generation_of v.seen < 4294967296))
+        → (raised ≡ true → (v.turn ≡ true) × (lone_part u ≡ 1) × (generation_of v.seen < GENERATION_END))
         → ((j : ℕ) (x : View N E)
         → j ≢ i
         → get_elem? s.views j ≡ some x
@@ -187,7 +188,7 @@ module _ {V N E : Type 0} (name : V → N) (list : V → List (Stamped E)) (firs
       let n = slice_index s.words 0 in
       let is = word_is s r in
       let few = few s r in
-      let small : total users_of s.views < 2147483648 = omega arith in
+      let small : total users_of s.views < CHANGING = omega arith in
       let bit = r.one_mark in
       let gen = generation_is n _ _ _ is bit small in
       let chg = changing_is n _ _ _ is bit small in
@@ -254,13 +255,13 @@ module _ {V N E : Type 0} (name : V → N) (list : V → List (Stamped E)) (firs
       )
 
   pub marks_it : (slots i : ℕ) (m : SeatState V N E) → m.0.user ≡ Free → IsSome m.0.name
-      → Allows Holds slots i m 0 (λ n. bit_or n 2147483648) (Marks (step slots 0 2147483648 0 none) m)
+      → Allows Holds slots i m 0 (λ n. bit_or n CHANGING) (Marks (step slots 0 CHANGING 0 none) m)
   marks_it slots i m free named s r deep at fits =
       let v = m.0 in
       let n = slice_index s.words 0 in
       let is = word_is s r in
       let few = few s r in
-      let small : total users_of s.views < 2147483648 = omega arith in
+      let small : total users_of s.views < CHANGING = omega arith in
       let bit = r.one_mark in
       let gen = generation_is n _ _ _ is bit small in
       let chg = changing_is n _ _ _ is bit small in
@@ -278,7 +279,7 @@ module _ {V N E : Type 0} (name : V → N) (list : V → List (Stamped E)) (firs
         w,
         keeps,
         tt,
-        uses s r i v (Marked (generation_in n)) v.raised n (v.steps + 1) v.installs r.generation (bit_or n 2147483648)
+        uses s r i v (Marked (generation_in n)) v.raised n (v.steps + 1) v.installs r.generation (bit_or n CHANGING)
             at named gen
             (λ raised. absurd (not_raised s r i v at e raised)) (λ j x apart there k. k)
             (omega arith) (omega arith) (λ some_alone. absurd (omega arith)) (let tie = r.tie in omega arith)
@@ -291,7 +292,7 @@ module _ {V N E : Type 0} (name : V → N) (list : V → List (Stamped E)) (firs
         w,
         keeps,
         tt,
-        uses s r i v Free v.raised n (v.steps + 1) v.installs r.generation (bit_or n 2147483648) at named tt
+        uses s r i v Free v.raised n (v.steps + 1) v.installs r.generation (bit_or n CHANGING) at named tt
             (λ raised. absurd (not_raised s r i v at e raised)) (λ j x apart there k. k)
             (omega arith) (omega arith) (λ some_alone. let h = r.lone (omega arith) in omega arith)
             (let tie = r.tie in omega arith) (let grows = r.grows in omega arith),
@@ -306,7 +307,7 @@ module _ {V N E : Type 0} (name : V → N) (list : V → List (Stamped E)) (firs
       let n = slice_index s.words 0 in
       let is = word_is s r in
       let few = few s r in
-      let small : total users_of s.views < 2147483648 = omega arith in
+      let small : total users_of s.views < CHANGING = omega arith in
       let bit = r.one_mark in
       let gen = generation_is n _ _ _ is bit small in
       let usr = users_is n _ _ _ is bit small in
@@ -358,7 +359,7 @@ module _ {V N E : Type 0} (name : V → N) (list : V → List (Stamped E)) (firs
       let n = slice_index s.words 0 in
       let is = word_is s r in
       let few = few s r in
-      let small : total users_of s.views < 2147483648 = omega arith in
+      let small : total users_of s.views < CHANGING = omega arith in
       let bit = r.one_mark in
       let clear_bit = and_not_bit n _ _ _ is bit small fits in
       let part = one_part v.user in
@@ -382,8 +383,8 @@ module _ {V N E : Type 0} (name : V → N) (list : V → List (Stamped E)) (firs
       → m.0.turn ≡ true
       → m.0.raised ≡ true
       → IsSome m.0.name
-      → Allows Holds slots i m 0 (λ n. (n + 2147483648) % 18446744073709551616)
-      (Installs (step slots 0 2147483648 0 none) m)
+      → Allows Holds slots i m 0 (λ n. (n + CHANGING) % 18446744073709551616)
+      (Installs (step slots 0 CHANGING 0 none) m)
   installs slots i m only turn raised named s r deep at fits =
       let v = m.0 in
       let n = slice_index s.words 0 in
@@ -410,7 +411,7 @@ module _ {V N E : Type 0} (name : V → N) (list : V → List (Stamped E)) (firs
         keeps,
         tt,
         uses s r i v Free false v.word v.steps (v.installs + 1) (r.generation + 1)
-            ((n + 2147483648) % 18446744073709551616) at named tt
+            ((n + CHANGING) % 18446744073709551616) at named tt
             (λ no. absurd (true≢false (sym no)))
             (λ j x apart there k.
             let his : references_of x ≤ total references_of s.views = part_le references_of s.views j x there in

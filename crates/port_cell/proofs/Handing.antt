@@ -11,7 +11,7 @@ use Rattle.atomic_table.proofs.Lists.{set_again}
 use Rattle.port_cell.specs.declared.kept.Stamped.{Stamped}
 use Rattle.port_cell.specs.declared.view.View.{View}
 use Rattle.port_cell.specs.Entries.{generation_of, Each, Begins, Keeps, AddsBy}
-use Rattle.port_cell.specs.Word.{word_of}
+use Rattle.port_cell.specs.Word.{GENERATION_END, word_of}
 use Rattle.port_cell.specs.Views.{total, Knows, bit_of, lone_part, turns_of, raises_of, users_of}
 use Rattle.port_cell.specs.Views.{references_of, marks_of, lone_marks_of, installs_of, with_turn}
 use Rattle.port_cell.specs.Views.{with_list, without_turn, installed_generation, MayTell}
@@ -65,7 +65,7 @@ module _ {V N E : Type 0} (name : V → N) (list : V → List (Stamped E)) (firs
         → Begins (list first) seen
         → Keeps i seen now
         → (turn ≡ true → seen ≡ now)
-        → (raised ≡ true → (turn ≡ true) × (lone_part v.user ≡ 1) × (generation_of seen < 4294967296))
+        → (raised ≡ true → (turn ≡ true) × (lone_part v.user ≡ 1) × (generation_of seen < GENERATION_END))
         → let w : View N E = record v { turn = turn; seen = seen; raised = raised } in
         words
         ≡ word_of r.generation (total marks_of s.views) (total users_of s.views) ∷ total turns_of (set s.views i w)
@@ -193,7 +193,7 @@ module _ {V N E : Type 0} (name : V → N) (list : V → List (Stamped E)) (firs
       let by : Each (λ k. k ≡ i) adds.0 = subst (λ n. Each (λ k. k ≡ n) adds.0) live.numbered adds.2 in
       let put : (raised : Bool)
       → raised ≡ w.raised
-      → (raised ≡ true → (lone_part v.user ≡ 1) × (generation_of told < 4294967296))
+      → (raised ≡ true → (lone_part v.user ≡ 1) × (generation_of told < GENERATION_END))
       → generation_of told ≡ r.generation + bit_of raised
       → Holds record { words = set s.words 2 count; homes = s.homes; views = set s.views i w } = λ raised is raises fit.
       let part_is : raises_of w ≡ bit_of raised = ap bit_of (sym is) in
@@ -218,7 +218,7 @@ module _ {V N E : Type 0} (name : V → N) (list : V → List (Stamped E)) (firs
             put false (sym (not_raised _ _ same)) (λ no. absurd (true≢false (sym no))) (omega arith))
             (λ (next : (lone_part v.user ≡ 1)
             × (generation_of told ≡ installed_generation v + 1)
-            × (generation_of told < 4294967296)).
+            × (generation_of told < GENERATION_END)).
             put true (sym (is_raised _ _ next.1)) (λ _. (next.0, next.2)) (omega arith))
             may,
         refl,

@@ -11,7 +11,7 @@ use Rattle.port_cell.specs.declared.kept.Stamped.{Stamped}
 use Rattle.port_cell.specs.declared.view.Joined.{Joined}
 use Rattle.port_cell.specs.declared.view.View.{View}
 use Rattle.port_cell.specs.Entries.{generation_of, Each, GoesOn, Begins, Keeps}
-use Rattle.port_cell.specs.Word.{word_of}
+use Rattle.port_cell.specs.Word.{GENERATION_END, word_of}
 use Rattle.port_cell.specs.Views.{total, Knows, bit_of, lone_part, turns_of, raises_of, users_of}
 use Rattle.port_cell.specs.Views.{references_of, marks_of, lone_marks_of, installs_of, spent_view}
 use Rattle.port_cell.specs.Rule.{joins_of, TookIn, LiveOk, ViewOk, Rule}
@@ -45,7 +45,7 @@ module _ {N E : Type 0} (name : N) (first latest : List (Stamped E)) (generation
     pub stands : Keeps i w.seen now
     pub newest : w.turn ≡ true → w.seen ≡ now
     pub knows : Knows next w.user
-    pub raised : w.raised ≡ true → (w.turn ≡ true) × (lone_part w.user ≡ 1) × (generation_of w.seen < 4294967296)
+    pub raised : w.raised ≡ true → (w.turn ≡ true) × (lone_part w.user ≡ 1) × (generation_of w.seen < GENERATION_END)
     pub others : (j : ℕ) (u : View N E)
         → j ≢ i
         → get_elem? views j ≡ some u

@@ -1,6 +1,7 @@
 -- What a seat knows: one function for each thing, and what is said of them.
 use Rattle.std.specs.Prelude.{◌≡◌, ℕ, ◌+◌, ◌<◌, ◌⊎◌, List, Bool, Option}
 use Rattle.atomic_table.specs.declared.shared.Seat.{Seat}
+use Rattle.port_cell.specs.Word.{GENERATION_END}
 use Rattle.port_cell.specs.declared.kept.Stamped.{Stamped}
 use Rattle.port_cell.specs.declared.view.User.{User}
 use Rattle.port_cell.specs.declared.view.View.{View}
@@ -70,4 +71,4 @@ module _ {V N E : Type 0} where
 
   -- it may note a list that reaches this generation: the installed one, or the next where it is alone
   abbrev pub MayNote : CellSeat V N E → ℕ → Type 0
-  MayNote s g = (g ≡ generation_installed s) ⊎ (IsAlone s × (g ≡ generation_installed s + 1) × (g < 4294967296))
+  MayNote s g = (g ≡ generation_installed s) ⊎ (IsAlone s × (g ≡ generation_installed s + 1) × (g < GENERATION_END))

@@ -12,15 +12,15 @@ abbrev pub SeatState : Type 0 → Type 0 → Type 0 → Type 0
 SeatState V N E = Me (Option V) (View N E)
 
 -- a seat with the turn finds the generation of the list that it has seen
-abbrev pub InTurn : {N E : Type 0} → View N E → ℕ → Type 0
-InTurn v w = v.turn ≡ true → v.raised ≡ false → generation_in w ≡ generation_of v.seen
+abbrev pub HasTurn : {N E : Type 0} → View N E → ℕ → Type 0
+HasTurn v w = v.turn ≡ true → v.raised ≡ false → generation_in w ≡ generation_of v.seen
 
 module _ {V N E : Type 0} where
   abbrev pub Enters : Step (Option V) → SeatState V N E → ℕ → SeatState V N E → Type 0
   Enters st m w m' =
       (changing_in w ≡ 0 → m' ≡ (with_word w (Held (generation_in w)) m.0, m.1))
       × (changing_in w ≡ 1 → m' ≡ (with_word w Trying m.0, m.1))
-      × InTurn m.0 w
+      × HasTurn m.0 w
 
   abbrev pub Leaves : Step (Option V) → SeatState V N E → ℕ → SeatState V N E → Type 0
   Leaves st m w m' = m' ≡ (with_user Free m.0, m.1)
@@ -29,14 +29,14 @@ module _ {V N E : Type 0} where
   Marks st m w m' =
       (changing_in w ≡ 0 → m' ≡ (with_word w (Marked (generation_in w)) m.0, m.1))
       × (changing_in w ≡ 1 → m' ≡ (with_word w Free m.0, m.1))
-      × InTurn m.0 w
+      × HasTurn m.0 w
 
   abbrev pub Looks : Step (Option V) → SeatState V N E → ℕ → SeatState V N E → Type 0
   Looks st m w m' =
       (users_in w ≡ 0 → m' ≡ (with_word w (Alone (generation_in w)) m.0, m.1))
       × (0 < users_in w → m' ≡ (with_word w m.0.user m.0, m.1))
       × Knows (generation_in w) m.0.user
-      × InTurn m.0 w
+      × HasTurn m.0 w
 
   abbrev pub Installs : Step (Option V) → SeatState V N E → ℕ → SeatState V N E → Type 0
   Installs st m w m' = m' ≡ (after_install m.0, m.1)

@@ -1,6 +1,7 @@
 -- What holds of the cell between any two steps: of its words, the value at home, and what all seats know.
 -- Of the value it sees the name and the list alone.
 use Rattle.std.specs.Prelude.{◌≡◌, ℕ, ◌+◌, ◌<◌, ◌≤◌, ◌⊎◌, ◌==◌, List, [], ◌∷◌, length, true, Option, Some}
+use Rattle.tty_base.specs.Sizes.{MOST_SEATS}
 use mathlib.Core.Option.{some, none}
 use lib.ListN.{get_elem?}
 use Rattle.atomic_table.specs.Table.{State}
@@ -8,7 +9,7 @@ use Rattle.port_cell.specs.declared.kept.Stamped.{Stamped}
 use Rattle.port_cell.specs.declared.view.Joined.{Joined}
 use Rattle.port_cell.specs.declared.view.View.{View}
 use Rattle.port_cell.specs.Entries.{generation_of, GoesOn, Begins, Keeps}
-use Rattle.port_cell.specs.Word.{word_of}
+use Rattle.port_cell.specs.Word.{GENERATION_END, word_of}
 use Rattle.port_cell.specs.Views.{total, Knows, bit_of, lone_part, turns_of, raises_of, users_of}
 use Rattle.port_cell.specs.Views.{references_of, marks_of, lone_marks_of, installs_of, spent_view}
 
@@ -38,7 +39,7 @@ module _ {N E : Type 0} where
       (v : View N E) : Type 0 where
     pub live : (v ≡ spent_view) ⊎ LiveOk name first latest views j v
     pub knows : Knows generation v.user
-    pub raised : v.raised ≡ true → (v.turn ≡ true) × (lone_part v.user ≡ 1) × (generation_of v.seen < 4294967296)
+    pub raised : v.raised ≡ true → (v.turn ≡ true) × (lone_part v.user ≡ 1) × (generation_of v.seen < GENERATION_END)
 
 pub record Rule {V N E : Type 0} (name : V → N) (list : V → List (Stamped E)) (first : V) (seats : ℕ)
     (s : State (Option V) (View N E)) : Type 0 where
@@ -55,7 +56,7 @@ pub record Rule {V N E : Type 0} (name : V → N) (list : V → List (Stamped E)
   -- the history: numbers that were not made yet have entries in the opening list alone, and a number is joined once at
   -- most
   pub grown : GoesOn (λ k. k < length s.views) (list first) latest
-  pub room : (length s.views ≤ seats) × (seats ≤ 4096)
+  pub room : (length s.views ≤ seats) × (seats ≤ MOST_SEATS)
   pub apart : (n : ℕ) → total (joins_of n) s.views ≤ 1
   -- the references: one seat at most has set the changing bit, and where it has found itself alone nobody holds a
   -- reference

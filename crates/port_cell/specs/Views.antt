@@ -1,6 +1,7 @@
 -- What a seat knows, and how its steps change that.
 use Rattle.std.specs.Prelude.{◌≡◌, ℕ, ◌+◌, ◌-◌, ◌<◌, ◌⊎◌, List, [], ◌∷◌, ◌++◌, Bool, true}
 use Rattle.std.specs.Prelude.{false, Option, Some, None, IfSome, nat_lt, if◌then◌else◌}
+use Rattle.port_cell.specs.Word.{GENERATION_END}
 use Rattle.port_cell.specs.declared.kept.Stamped.{Stamped}
 use Rattle.port_cell.specs.declared.view.Joined.{Joined}
 use Rattle.port_cell.specs.declared.view.User.{User}
@@ -132,7 +133,7 @@ module _ {N E : Type 0} where
   -- a list of this generation may be noted: of the installed one, or, by a seat that is alone, of the next
   abbrev pub MayTell : View N E → ℕ → Type 0
   MayTell v g =
-      (g ≡ installed_generation v) ⊎ ((lone_part v.user ≡ 1) × (g ≡ installed_generation v + 1) × (g < 4294967296))
+      (g ≡ installed_generation v) ⊎ ((lone_part v.user ≡ 1) × (g ≡ installed_generation v + 1) × (g < GENERATION_END))
 
   abbrev pub after_install : View N E → View N E
   after_install v = record v { user = Free; raised = false; installs = v.installs + 1 }

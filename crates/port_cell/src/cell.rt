@@ -1,6 +1,7 @@
 //! The cell itself: how it is made with its seats, and how it ends with all of them.
 
 ghost use Rattle.std.specs.Prelude.{◌≡◌, ℕ, ◌+◌, ◌<◌, ◌≤◌, [], IfOk, length};
+ghost use Rattle.tty_base.specs.Sizes.{MOST_SEATS};
 ghost use Rattle.port_cell.specs.Entries.{generation_of, entries_by, GoesOn};
 ghost use Rattle.port_cell.specs.Views.{total, installs_of, first_view};
 ghost use Rattle.port_cell.specs.Knowledge.{number_of, own_entries, install_count};
@@ -21,7 +22,7 @@ use tty_base::NoMemory;
 /// A thread's place at a cell. It has no bytes.
 pub type Seat<V> = atomic_table::Seat<Option<V>, View<<V as Kept>::Name, <V as Kept>::Entry>>;
 
-type Board<V> = Table<
+type CellTable<V> = Table<
     Option<V>,
     View<<V as Kept>::Name, <V as Kept>::Entry>,
     Opening<V>,
@@ -39,7 +40,7 @@ pub(crate) const COUNT: usize = 2;
 /// One value that threads share.
 #[derive(Drop)]
 pub struct Cell<V: Kept> {
-    pub(crate) table: Board<V>,
+    pub(crate) table: CellTable<V>,
     pub(crate) for_turn: Sleepers,
     /// Those who wait for a change: of references and generations, after which the cell wakes them, or of
     /// entries, after which who noted them does.
@@ -56,7 +57,7 @@ impl<V: Kept> Cell<V> {
     where
         V: Drop,
         requires some { 0 < seats }
-        requires few { seats ≤ 4096 }
+        requires few { seats ≤ MOST_SEATS }
         ensures opening { IfOk result (λ r. opening_value r.0 ≡ value) }
         ensures count { IfOk result (λ r. seat_count r.0 ≡ seats) }
         ensures seats { IfOk result (λ r. length r.1.items ≡ seats) }
@@ -85,7 +86,7 @@ impl<V: Kept> Cell<V> {
     fn deal(&self, alloc: Global, mut first: Seat<V>, seats: u32) -> Result<Vec<Seat<V>>, NoMemory>
         requires first { (first.table_id ≡ identity_of self.now)
             × (first.me ≡ (first_view (V.name (opening_value self.now)) (V.list (opening_value self.now)), [])) }
-        requires room { (0 < seats) × (seats ≤ seat_count self.now) × (seats ≤ 4096) }
+        requires room { (0 < seats) × (seats ≤ seat_count self.now) × (seats ≤ MOST_SEATS) }
         ensures { IfOk result (λ all.
             (length all.items ≡ seats)
             × AllNew (identity_of self.now) (V.name (opening_value self.now)) (V.list (opening_value self.now))

@@ -53,14 +53,14 @@ impl<V, N, E> Play<Option<V>, View<N, E>> for Give {
 }
 
 /// The list that a step notes. A store reads no list, so its proof picks it.
-pub(crate) trait Told<E> {
+pub(crate) trait NotedList<E> {
     ghost use Rattle.std.specs.Prelude.{List};
     ghost use Rattle.port_cell.specs.declared.kept.Stamped.{Stamped};
 
     ghost told: { List (Stamped E) };
 }
 
-impl<E> Told<E> for Brand {
+impl<E> NotedList<E> for Brand {
     ghost told = { [] };
 }
 
@@ -68,7 +68,7 @@ pub(crate) struct Note<T> {
     marker: PhantomData<T>,
 }
 
-impl<V, N, E, T: Told<E>> Play<Option<V>, View<N, E>> for Note<T> {
+impl<V, N, E, T: NotedList<E>> Play<Option<V>, View<N, E>> for Note<T> {
     ghost then = { Notes T.told };
 }
 

@@ -18,10 +18,13 @@ use crate::kept::Kept;
 use crate::plays::{Enter, Install, Leave, Look, Mark};
 use crate::turns::Turn;
 
+/// What one user adds to the reference word.
 const USER: u64 = 1;
 
+/// What the bit adds that is set while a seat is about to change the generation.
 const CHANGING: u64 = 1 << 31;
 
+/// What one generation adds.
 const GENERATION: u64 = 1 << 32;
 
 /// Some seat changes the generation. The reference word as it was found.
@@ -202,7 +205,7 @@ impl<V: Kept> Cell<V> {
         ensures installs { install_count seat.new ≡ install_count seat.old + 1 }
         ensures value { turn.new ≡ turn.old }
     {
-        let _value = &turn.value;
+        let _value = &turn.value; // for the contract alone
         self.table
             .shared
             .fetch_add::<Install>(seat, REFERENCES, GENERATION - CHANGING);

@@ -1,10 +1,10 @@
 //! Turns at the value: waiting for one, noting what was changed, giving it back, and waiting for a change.
 
-ghost use Rattle.std.specs.Prelude.{◌≡◌, ◌<◌, ◌+◌, true, false, Some, IsSome, IfSome, IfNone};
+ghost use Rattle.std.specs.Prelude.{◌≡◌, ◌<◌, ◌+◌, true, false, Some, IfSome, IfNone};
 ghost use Rattle.std.specs.Borrow.{Lends, sem};
 ghost use Rattle.port_cell.specs.contracts.turns.Turn.{the_row};
 ghost use Rattle.port_cell.specs.Lent.{with_value, value_in};
-ghost use Rattle.port_cell.specs.Entries.{generation_of, entries_by, Keeps, AddsBy};
+ghost use Rattle.port_cell.specs.Entries.{generation_of, Keeps, AddsBy};
 ghost use Rattle.port_cell.specs.Views.{Knows, with_turn, with_list, MayTell};
 ghost use Rattle.port_cell.specs.Knowledge.{number_of, name_of, list_seen, own_entries, user_of};
 ghost use Rattle.port_cell.specs.Knowledge.{has_turn, is_raised, generation_installed, MayNote};
@@ -14,7 +14,7 @@ ghost use Rattle.port_cell.specs.Joining.{Becomes};
 
 use crate::cell::{COUNT, Cell, Seat, TURN};
 use crate::kept::Kept;
-use crate::plays::{Give, Note, Take, Told};
+use crate::plays::{Give, Note, NotedList, Take};
 use change_wait::ChangeCount;
 use std::hint::spin_loop;
 use std::marker::Brand;
@@ -123,7 +123,7 @@ impl<V: Kept> Cell<V> {
         self.tell::<Brand>(seat, &turn.value);
     }
 
-    fn tell<T: Told<V::Entry>>(&self, seat: &mut Seat<V>, value: &V)
+    fn tell<T: NotedList<V::Entry>>(&self, seat: &mut Seat<V>, value: &V)
         requires seat { IsSeat (identity_of self.now) seat.old }
         requires turn { has_turn seat.old ≡ true }
         requires list { AddsBy (number_of seat.old) (list_seen seat.old) (V.list value.now) }
@@ -164,7 +164,7 @@ impl<V: Kept> Cell<V> {
         requires none { has_turn seat.old ≡ false }
         ensures { seat.new ≡ seat.old }
     {
-        let _seat = &*seat;
+        let _seat = &*seat; // for the contract alone
         self.for_change.wait(rt, since);
     }
 }

@@ -2,10 +2,11 @@
 use Rattle.std.specs.Prelude.{MatchBool}
 use Rattle.std.proofs.Common.{◌≡◌, ℕ, List, [], ◌∷◌, ◌++◌, Bool, ◌&&◌, Option, None, Some, is_some}
 use Rattle.std.proofs.Common.{◌+◌, ◌<◌, ◌≤◌, length, set, refl, sym, ◌∙◌, ap, subst, arith, append-nil}
+use Rattle.tty_base.specs.Sizes.{COLUMNS_OF_PIECE, MOST_FLIP}
 use Rattle.tty_base.specs.declared.characters.Flagged.{Flagged}
 use Rattle.word_ring.specs.Ends.{TakerState}
 use Rattle.port_core.specs.declared.waiting.WaitingCall.{WaitingCall}
-use Rattle.tty_calls.specs.Plain.{PlainCall, handle_of, call_of, PlainAnswer, answered, parted, waited, PlainEntry}
+use Rattle.tty_calls.specs.Plain.{PlainCall, handle_of, PlainAnswer, answered, parted, waited, PlainEntry}
 use Rattle.ldisc_switch.specs.Disciplines.{column_in}
 use Rattle.tty_terminal.specs.Terminals.{Terminal, caller_at, has_begun}
 use Rattle.tty_terminal.specs.Calls.{outcome, outcome_of}
@@ -59,11 +60,11 @@ pub answers_call : (v now : PortValue) (slots : List (Option WaitingCall)) (c st
     → MatchBool (drops_of (outcome v.terminal (caller_at v.terminal c) call)) (DropsShown v.terminal v.flip f dropped)
     ((dropped ≡ []) × (f ≡ v.flip))
     → f.taken ≡ v.flip.taken ++ dropped
-    → length dropped ≤ 65536
+    → length dropped ≤ MOST_FLIP
     → f.capacity ≡ v.flip.capacity
     → v.terminal.sent ≤ f.floor
     → u ≡ left_by (outcome v.terminal (caller_at v.terminal c) call) v.terminal
-    → column_in u.disc ≤ column_in v.terminal.disc + 4096
+    → column_in u.disc ≤ column_in v.terminal.disc + COLUMNS_OF_PIECE
     → now
     ≡ after_call v c step call (after_answer (with_dropped u (length dropped)) c) f
     (caller_entry v c (answered a dropped))
@@ -107,7 +108,7 @@ pub takes_part_of : (v now : PortValue) (slots : List (Option WaitingCall)) (c s
     → IsTried v slots c step call
     → TakesPart (outcome v.terminal (caller_at v.terminal c) call) n
     → u ≡ left_by (outcome v.terminal (caller_at v.terminal c) call) v.terminal
-    → column_in u.disc ≤ column_in v.terminal.disc + 4096
+    → column_in u.disc ≤ column_in v.terminal.disc + COLUMNS_OF_PIECE
     → now ≡ after_call v c step call (after_part u c (handle_of call) n) v.flip (caller_entry v c (parted n))
     → KeepsCalls now slots × TakesPartOf v now c step call
 takes_part_of v now slots c step call n u h takes left column now_is =

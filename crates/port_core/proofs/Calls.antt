@@ -1,15 +1,15 @@
 -- The calls that a port keeps, and the entries of a call.
 use Rattle.std.proofs.Common.{◌≡◌, ℕ, List, [], ◌∷◌, ◌++◌, Bool, true, false, ◌&&◌, ◌==◌, Option, None, Some, is_some}
-use Rattle.std.proofs.Common.{cond, if◌then◌else◌, ◌+◌, ◌-◌, ◌<◌, ◌≤◌, inl, inr, length, map, set, get_or, min, refl}
+use Rattle.std.proofs.Common.{cond, if◌then◌else◌, ◌+◌, ◌-◌, ◌<◌, ◌≤◌, inl, inr, length, set, get_or, min, refl}
 use Rattle.std.proofs.Common.{sym, ◌∙◌, ap, subst, arith, add-zero, length-set, get_or-set_same, get_or-set_other}
 use Rattle.std.proofs.lemmas.Bool.{false≢true, eqb-true, eq-eqb}
 use Rattle.std.proofs.lemmas.Bool.Decides.{nat_tests, eqb_tells}
-use Rattle.std.proofs.lemmas.List.{map-append}
+use Rattle.tty_base.specs.Sizes.{COLUMNS_OF_PIECE, MOST_FLIP, MOST_HANDLES}
 use Rattle.tty_base.specs.declared.characters.Flagged.{Flagged}
 use Rattle.word_ring.specs.Ends.{TakerState}
 use Rattle.port_core.specs.declared.waiting.WaitingCall.{WaitingCall}
 use Rattle.tty_calls.specs.declared.answers.Answer.{Answer}
-use Rattle.tty_calls.specs.Plain.{PlainCall, handle_of, PlainAnswer, idle, answer_of, call_of}
+use Rattle.tty_calls.specs.Plain.{PlainCall, handle_of, PlainAnswer, idle, answer_of}
 use Rattle.tty_calls.specs.Plain.{PlainEvent, answered, parted, waited, flushed, ticked, line_ended}
 use Rattle.tty_calls.specs.Plain.{clock_ended, caller_ended, phase_ended, hung_up, PlainEntry, chars_in}
 use Rattle.ldisc_switch.specs.Disciplines.{column_in}
@@ -21,7 +21,7 @@ use Rattle.tty_terminal.specs.Outcomes.{Outcome, unknown, waits, takes, gives}
 use Rattle.tty_terminal.specs.Meeting.{Meets, drops_of}
 use Rattle.tty_terminal.specs.Steps.{Answers, Drops, MustWait, TakesPart, left_by, with_dropped, Allowed, after, quiet}
 use Rattle.tty_terminal.specs.Standing.{Standing, standing_of, standing_after_own, standing_after_other}
-use Rattle.tty_terminal.specs.Runs.{Grows, is_flush, is_of_call}
+use Rattle.tty_terminal.specs.Runs.{KnowsMore, is_flush, is_of_call}
 use Rattle.tty_terminal.proofs.StepLaws.{sent_of, begun_after}
 use Rattle.tty_terminal.proofs.StandingLaws.{step_stands}
 use Rattle.port_core.specs.Flips.{shown_count}
@@ -50,7 +50,7 @@ call_in_more (x ∷ xs) k c step call h =
 
 -- the port keeps its calls
 pub grows_kept : (begun : Bool) (ks : List PlainKept) (c step : ℕ) (call : PlainCall)
-    → Grows (call_in ks) (call_in (kept_with begun ks c step call))
+    → KnowsMore (call_in ks) (call_in (kept_with begun ks c step call))
 grows_kept true ks c step call = λ d s other h. h
 grows_kept false ks c step call = λ d s other h.
     call_in_more ks (record { caller = c; step = step; call = call }) d s other h
@@ -119,12 +119,6 @@ answers_met may unknown given h = h
 answers_met may waits given h = absurd h
 answers_met may (takes n left) given h = h
 answers_met may (gives a drops left) given h = h
-
-pub waits_met : (o : Outcome) → Meets o met.Waits → MustWait o
-waits_met unknown h = h
-waits_met waits h = h
-waits_met (takes n left) h = h
-waits_met (gives a drops left) h = h
 
 pub parts_met : (o : Outcome) (n : ℕ) → Meets o (met.Takes n) → TakesPart o n
 parts_met unknown n h = h
@@ -224,9 +218,6 @@ other_call (hung_up dropped) s h = refl
 self_test : (c : ℕ) → (c == c) ≡ true
 self_test c = eq-eqb c c refl
 
-not_self : (c d : ℕ) → (c ≡ d → ⊥) → (c == d) ≡ false
-not_self c d other = grind (arith, nat_tests)
-
 choose : {A : Type 0} (b : Bool) (x y : A) → b ≡ true → (if b then x else y) ≡ x
 choose true x y h = refl
 choose false x y h = absurd (false≢true h)
@@ -295,14 +286,14 @@ calls_after : (t u : Terminal) (ks ms : List PlainKept) (slots later : List (Opt
     (call : PlainCall)
     → step ≡ (caller_at t c).next
     → call_in ms c step ≡ Some call
-    → Grows (call_in ks) (call_in ms)
+    → KnowsMore (call_in ks) (call_in ms)
     → (is_some (caller_at u c).waits ≡ true → (caller_at u c).next ≡ (caller_at t c).next)
     → (is_some (caller_at u c).waits ≡ true → HasCopy later c call)
     → ((d : ℕ)
     → (c == d) ≡ false
     → ((caller_at u d).next ≡ (caller_at t d).next) × (is_some (caller_at u d).waits ≡ is_some (caller_at t d).waits))
     → ((d : ℕ) → (c == d) ≡ false → get_or later d None ≡ get_or slots d None)
-    → handle_of call < 32
+    → handle_of call < MOST_HANDLES
     → AreWaitingCalls t ks slots
     → AreWaitingCalls u ms later
 calls_after t u ks ms slots later c step call at_step found grows next own others slot number are = λ d waits.
@@ -314,7 +305,7 @@ calls_after t u ks ms slots later c step call at_step found grows next own other
             found =
                 ap (λ (n : ℕ). call_in ms c n) (next now ∙ sym at_step)
                 ∙ (found ∙ ap (λ (x : PlainCall). Some x) (sym held.same));
-            number = subst (λ (x : PlainCall). handle_of x < 32) (sym held.same) number;
+            number = subst (λ (x : PlainCall). handle_of x < MOST_HANDLES) (sym held.same) number;
           })) waits
       | inr h ↦ (let was = are d (sym (others d h.0).1 ∙ waits) in record {
         copy = was.copy;
@@ -341,12 +332,12 @@ pub call_goes_on : (v now : PortValue) (slots later : List (Option WaitingCall))
     → Allowed (call_in (kept_with (has_begun (caller_at v.terminal c)) v.kept c step call)) v.counts v.terminal
     (caller_entry v c event)
     → f.taken ≡ v.flip.taken ++ chars_in event
-    → length (chars_in event) ≤ 65536
+    → length (chars_in event) ≤ MOST_FLIP
     → f.capacity ≡ v.flip.capacity
     → sent_of event v.terminal.sent ≤ f.floor
     → column_in (after (call_in (kept_with (has_begun (caller_at v.terminal c)) v.kept c step call)) v.terminal
     (caller_entry v c event)).disc
-    ≤ column_in v.terminal.disc + 4096
+    ≤ column_in v.terminal.disc + COLUMNS_OF_PIECE
     → HoldsCalls slots later c call event
     → now ≡ record (with_entry (with_call v c step call) (caller_entry v c event)) { flip = f }
     → KeepsCalls now later
@@ -364,7 +355,7 @@ call_goes_on v now slots later c step call f event keeps few ready of_call
     subst (BeginsOrEnds (standing_of (caller_at t c))) (sym own)
     (own_begins event t.generation (standing_of (caller_at t c)) of_call) in
     let begun : step < begun_of (caller_at u c) = subst (λ n. n < begun_of (caller_at u c)) (sym ready.next) begins.0 in
-    let grows : Grows (call_in v.kept) g = grows_kept b v.kept c step call in
+    let grows : KnowsMore (call_in v.kept) g = grows_kept b v.kept c step call in
     let others : (d : ℕ)
     → (c == d) ≡ false
     → ((caller_at u d).next ≡ (caller_at t d).next) × (is_some (caller_at u d).waits ≡ is_some (caller_at t d).waits) =

@@ -2,6 +2,7 @@
 use Rattle.std.proofs.Common.{◌≡◌, ℕ, List, Option, ◌++◌, true, false, ◌+◌, ◌<◌, ◌≤◌}
 use Rattle.std.proofs.Common.{length, max, refl, sym, ◌∙◌, ap, subst, arith, length-append}
 use Rattle.std.proofs.lemmas.Bool.{false≢true}
+use Rattle.tty_base.specs.Sizes.{MOST_FLIP}
 use Rattle.tty_base.specs.declared.characters.Flagged.{Flagged}
 use Rattle.flip_buffer.specs.Drops.{Releases}
 use Rattle.word_ring.specs.Ends.{PutterState, TakerState, AreReleased, with_shown}
@@ -119,7 +120,7 @@ hangs_up v now slots p f dropped keeps few at_end sent taken all heads released 
     let small = keeps.port.capacity in
     let allowed : Allowed (call_in v.kept) v.counts t e =
     (refl, (refl, record { after = omega (arith, at_end); at_step = refl; at_part = refl; all = omega arith })) in
-    let few_dropped : length dropped ≤ 65536 = omega arith in (
+    let few_dropped : length dropped ≤ MOST_FLIP = omega arith in (
       plainly v now slots f e keeps few allowed taken few_dropped capacity (omega arith) refl
           (λ h. absurd (false≢true h)) (omega (arith, fresh_column)) now_is,
       subst (λ (w : PortValue). HangsUp v w p) (sym now_is) (record {

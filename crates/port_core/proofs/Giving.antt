@@ -1,10 +1,11 @@
 -- Characters that are given: put where nothing waits, and taken as far as they are accepted.
 use Rattle.std.proofs.Common.{◌≡◌, ℕ, List, Option, [], ◌∷◌, ◌++◌, Bool, true, false}
-use Rattle.std.proofs.Common.{if◌then◌else◌, ◌+◌, ◌-◌, ◌*◌, ◌^◌, ◌<◌, ◌≤◌, min, max, length, take}
+use Rattle.std.proofs.Common.{if◌then◌else◌, ◌+◌, ◌-◌, ◌*◌, ◌<◌, ◌≤◌, min, max, length, take}
 use Rattle.std.proofs.Common.{drop, refl, sym, ◌∙◌, ap, subst, arith, append_assoc, length-append}
 use Rattle.std.proofs.lemmas.Bool.{false≢true}
 use Rattle.std.proofs.lemmas.List.{take_all, length-take-le}
 use Rattle.std.proofs.Math.Seq.{drop-append_seam, take-append_seam}
+use Rattle.tty_base.specs.Sizes.{COLUMNS_OF_CHARACTER}
 use mathlib.Core.List.{IsPrefix}
 use Rattle.tty_base.specs.declared.characters.Flagged.{Flagged}
 use Rattle.word_ring.specs.Ends.{PutterState, TakerState, NothingWaits, Passes, with_shown, with_taken, with_all_taken}
@@ -165,7 +166,7 @@ pub gives_piece : (v now : PortValue) (slots : List (Option WaitingCall)) (run n
     → u ≡ after_characters v.terminal (take n chars)
     → AcceptsAll v.terminal (take n chars)
     → (n < length chars → accepts u ≡ false)
-    → column_in u.disc ≤ column_in v.terminal.disc + 2 ^ 22 * length chars
+    → column_in u.disc ≤ column_in v.terminal.disc + COLUMNS_OF_CHARACTER * length chars
     → now ≡ record (with_entry v (flush_entry v run 0 (take n chars))) { flip = g }
     → KeepsCalls now slots × FlushesGiven v now p q run chars (flushed.Took n)
 gives_piece v now slots run n p q g chars u keeps few piece

@@ -3,6 +3,7 @@ use Rattle.std.proofs.Common.{◌≡◌, ℕ, List, [], ◌∷◌, ◌++◌, IsT
 use Rattle.std.proofs.Common.{Option, ◌+◌, ◌^◌, ◌<◌, ◌≤◌, if◌then◌else◌, length, sum, refl}
 use Rattle.std.proofs.Common.{sym, ◌∙◌, ap, subst, arith, rules, length-append, append-nil}
 use Rattle.std.proofs.lemmas.Bool.{false≢true}
+use Rattle.tty_base.specs.Sizes.{COLUMNS_OF_ENTRY, MOST_ENTRIES, MOST_FLIP}
 use Rattle.tty_base.specs.declared.characters.Flagged.{Flagged}
 use Rattle.word_ring.specs.Ends.{TakerState}
 use Rattle.tty_calls.specs.Plain.{PlainCall, PlainEvent, answered, parted, waited, flushed, ticked, line_ended}
@@ -11,7 +12,7 @@ use Rattle.ldisc_switch.specs.Disciplines.{column_in}
 use Rattle.tty_terminal.specs.Terminals.{Terminal, caller_at, begun_of, opening}
 use Rattle.tty_terminal.specs.Steps.{Allowed, after}
 use Rattle.tty_terminal.specs.Standing.{Standing, standing_of, standing_after_own, standing_after_other}
-use Rattle.tty_terminal.specs.Runs.{IsRun, Grows, AgreesOn, RunHas, GoesOnInGeneration, is_flush, is_of_call}
+use Rattle.tty_terminal.specs.Runs.{IsRun, KnowsMore, AgreesOn, RunHas, GoesOnInGeneration, is_flush, is_of_call}
 use Rattle.tty_terminal.proofs.Runs.{leads_more, chars_append, Bounded, run_bounded, run_callers}
 use Rattle.tty_terminal.proofs.Runs.{run_capacity, run_in_line, run_within, run_taken}
 use Rattle.tty_terminal.proofs.StepLaws.{sent_of, sent_after, begun_after}
@@ -31,14 +32,14 @@ entered v ks f e =
 -- what an entry needs so that the port goes on
 pub record Keeps (v : PortValue) (ks : List PlainKept) (f : TakerState Flagged) (e : PlainEntry) : Type 0 where
   pub few : length v.journal < v.limit
-  pub grows : Grows (call_in v.kept) (call_in ks)
+  pub grows : KnowsMore (call_in v.kept) (call_in ks)
   pub allowed : Allowed (call_in ks) v.counts v.terminal e
   pub begun : AllBegun (after (call_in ks) v.terminal e) ks
   pub taken : f.taken ≡ v.flip.taken ++ chars_in e.event
   pub capacity : f.capacity ≡ v.flip.capacity
   pub sent : sent_of e.event v.terminal.sent ≤ f.floor
-  pub column : column_in (after (call_in ks) v.terminal e).disc ≤ column_in v.terminal.disc + 2 ^ 28
-  pub some : length (chars_in e.event) ≤ 65536
+  pub column : column_in (after (call_in ks) v.terminal e).disc ≤ column_in v.terminal.disc + COLUMNS_OF_ENTRY
+  pub some : length (chars_in e.event) ≤ MOST_FLIP
   pub piece : IsTrue (is_flush e.event) → 0 < e.part → RunHas e.step e.generation v.journal
   pub generation : GoesOnInGeneration v.terminal e
 
@@ -149,9 +150,9 @@ calls_stay t u ks slots stay are c waits =
 -- a port with no entries, on a flip buffer from which nothing was taken
 fresh_keeps : (counts : List ℕ) (limit : ℕ) (starved : Bool) (flip : TakerState Flagged)
     (slots : List (Option WaitingCall))
-    → limit ≤ 4194304
+    → limit ≤ MOST_ENTRIES
     → flip.taken ≡ []
-    → flip.capacity ≤ 65536
+    → flip.capacity ≤ MOST_FLIP
     → length slots ≡ sum counts
     → KeepsCalls (record {
       terminal = opening (sum counts) flip.capacity;
@@ -186,9 +187,9 @@ pub begins : (v : PortValue) (slots : List (Option WaitingCall))
     → v.terminal ≡ opening (sum v.counts) v.flip.capacity
     → v.journal ≡ []
     → v.kept ≡ []
-    → v.limit ≤ 4194304
+    → v.limit ≤ MOST_ENTRIES
     → v.flip.taken ≡ []
-    → v.flip.capacity ≤ 65536
+    → v.flip.capacity ≤ MOST_FLIP
     → length slots ≡ sum v.counts
     → KeepsCalls v slots
 begins v slots terminal journal kept few fresh small many =
@@ -204,12 +205,12 @@ pub plainly : (v now : PortValue) (slots : List (Option WaitingCall)) (f : Taker
     → length v.journal < v.limit
     → Allowed (call_in v.kept) v.counts v.terminal e
     → f.taken ≡ v.flip.taken ++ chars_in e.event
-    → length (chars_in e.event) ≤ 65536
+    → length (chars_in e.event) ≤ MOST_FLIP
     → f.capacity ≡ v.flip.capacity
     → sent_of e.event v.terminal.sent ≤ f.floor
     → is_of_call e.event ≡ false
     → (IsTrue (is_flush e.event) → 0 < e.part → RunHas e.step e.generation v.journal)
-    → column_in (after (call_in v.kept) v.terminal e).disc ≤ column_in v.terminal.disc + 2 ^ 28
+    → column_in (after (call_in v.kept) v.terminal e).disc ≤ column_in v.terminal.disc + COLUMNS_OF_ENTRY
     → now ≡ record (with_entry v e) { flip = f }
     → KeepsCalls now slots
 plainly v now slots f e p few allowed taken some capacity sent none piece column now_is =
@@ -283,10 +284,10 @@ none_taken f g same = same ∙ sym (append-nil f.taken)
 -- ---- the numbers of a port
 
 -- the numbers of a port's terminal are small
-pub port_bounded : (v : PortValue) → IsPort v → Bounded v.terminal 4194304
+pub port_bounded : (v : PortValue) → IsPort v → Bounded v.terminal MOST_ENTRIES
 port_bounded v p =
     let b = run_bounded (call_in v.kept) v.counts v.flip.capacity v.journal v.terminal p.run in
-    let few : length v.journal ≤ 4194304 = omega (arith, p.few, p.limit) in
+    let few : length v.journal ≤ MOST_ENTRIES = omega (arith, p.few, p.limit) in
     record {
       generation = omega (arith, b.generation, few);
       tick = omega (arith, b.tick, few);
@@ -330,7 +331,7 @@ port_few v p = omega (arith, p.bounded, p.few, p.limit)
 pub run_of_session : (v : PortValue)
     → IsPort v
     → (session : ℕ → ℕ → Option PlainCall)
-    → Grows (call_in v.kept) session
+    → KnowsMore (call_in v.kept) session
     → IsRun session v.counts v.flip.capacity v.journal v.terminal
 run_of_session v p session grows = leads_grown (call_in v.kept) session v.counts
     (opening (sum v.counts) v.flip.capacity) v.journal v.terminal grows p.run

@@ -1,9 +1,10 @@
 -- Characters that are handed over one by one, and pieces of flush runs.
 use Rattle.std.proofs.Common.{◌≡◌, ℕ, List, Option, [], ◌∷◌, ◌++◌, Bool, true, false, not, ◌||◌}
-use Rattle.std.proofs.Common.{◌==◌, IsTrue, if◌then◌else◌, ◌+◌, ◌-◌, ◌*◌, ◌^◌, ◌<◌, ◌≤◌, ◌⊎◌, inl}
+use Rattle.std.proofs.Common.{◌==◌, IsTrue, if◌then◌else◌, ◌+◌, ◌-◌, ◌*◌, ◌<◌, ◌≤◌, ◌⊎◌, inl}
 use Rattle.std.proofs.Common.{inr, ⊎_elim, MatchBool, min, length, refl, sym, ◌∙◌, ap, subst, arith}
 use Rattle.std.proofs.lemmas.Bool.{cases_lt, false≢true}
 use Rattle.std.proofs.lemmas.Bool.Decides.{nat_tests}
+use Rattle.tty_base.specs.Sizes.{COLUMNS_OF_CHARACTER, PIECE}
 use mathlib.Core.List.{IsPrefix}
 use Rattle.tty_base.specs.declared.characters.Flagged.{Flagged}
 use Rattle.word_ring.specs.Ends.{TakerState, with_shown}
@@ -119,7 +120,7 @@ pub takes_piece : (v now : PortValue) (slots : List (Option WaitingCall)) (run p
     → u ≡ after_characters v.terminal chars
     → AcceptsAll v.terminal chars
     → (length chars < count → accepts u ≡ false)
-    → column_in u.disc ≤ column_in v.terminal.disc + 2 ^ 22 * count
+    → column_in u.disc ≤ column_in v.terminal.disc + COLUMNS_OF_CHARACTER * count
     → now ≡ record (with_entry v (flush_entry v run part chars)) { flip = g }
     → KeepsCalls now slots × Takes v now run part most (length chars)
 takes_piece v now slots run part most count shown f g chars u keeps few piece free same looks shown_is
@@ -131,7 +132,7 @@ takes_piece v now slots run part most count shown f g chars u keeps few piece fr
     let willing : accepts t ≡ true = not_false (accepts t) loose.1 in
     let n = length chars in
     let several : 0 < n = some_taken t u chars count is willing some stops in
-    let small : n ≤ 64 = omega (arith, piece.few) in
+    let small : n ≤ PIECE = omega (arith, piece.few) in
     let shows : n ≤ shown_count t f.floor = omega (arith, shown_is) in
     let e : PlainEntry = flush_entry v run part chars in
     let sent : IsTrue t.line_over → t.taken + n ≤ t.sent = λ over.

@@ -8,7 +8,7 @@ use Rattle.std.specs.List.Sorted.{IsNonDecreasing}
 use Rattle.tty_base.specs.declared.characters.Flagged.{Flagged}
 use Rattle.word_ring.specs.Ends.{PutterState, TakerState, IsOneWithin, with_loaded, with_shown, with_taken}
 use Rattle.word_ring.proofs.Beginnings.{begins_itself, begins_more, begins_through, begins_whole}
-use Rattle.flip_buffer.specs.Drops.{LooksAt, Releases}
+use Rattle.flip_buffer.specs.Drops.{Releases}
 use Rattle.port_core.specs.Flips.{TakesOut, MeetsTaker}
 
 -- no head was released
@@ -53,19 +53,6 @@ released_through f g h first second a b =
           (λ k d lt. let n = b.above k d lt in omega arith);
       below = All-append (λ (n : ℕ). n ≤ length h.taken) a.heads b.heads
           (λ k d lt. let n = a.below k d lt in omega arith) b.below;
-    }
-
-pub nothing_out : (f : TakerState Flagged) → TakesOut f f []
-nothing_out f =
-    record {
-      ring = refl;
-      capacity = refl;
-      taken = sym (append-nil f.taken);
-      floor = omega arith;
-      tails = begins_itself f.tails;
-      released = none_released f _ refl;
-      ended = refl;
-      sent = refl;
     }
 
 -- of what was peeked some are taken
@@ -145,28 +132,6 @@ pub looks_first : (f g h : TakerState Flagged) (xs : List Flagged)
 looks_first f g h xs same rises a =
     let looked : TakesOut f (with_shown f g.floor) [] = takes_out_of f g.floor [] rises in
     takes_out_more f g h [] xs (subst (λ (z : TakerState Flagged). TakesOut f z []) (sym same) looked) a
-
--- one call that looks and takes all that it shows
-pub looks_and_takes : (f g : TakerState Flagged) (tail : ℕ) (xs : List Flagged)
-    → LooksAt f g tail
-    → Releases f g
-    → g.ring ≡ f.ring
-    → g.capacity ≡ f.capacity
-    → g.ended ≡ f.ended
-    → g.sent ≡ f.sent
-    → g.taken ≡ f.taken ++ xs
-    → TakesOut f g xs
-looks_and_takes f g tail xs looks releases ring capacity ended sent taken =
-    record {
-      ring = ring;
-      capacity = capacity;
-      taken = taken;
-      floor = omega (arith, looks.rises, looks.floor);
-      tails = begins_through f.tails (f.tails ++ tail ∷ []) g.tails (begins_more f.tails (tail ∷ [])) looks.looked;
-      released = releases;
-      ended = ended;
-      sent = sent;
-    }
 
 -- of two lists of which one begins the other the one that is no longer begins the other
 pub shorter_begins : (xs ys : List Flagged) → IsOneWithin xs ys → length xs ≤ length ys → IsPrefix xs ys

@@ -1,6 +1,7 @@
 -- What an attempt of a call needs, and what it comes to.
 use Rattle.std.specs.Prelude.{◌≡◌, ◌⊎◌, ℕ, List, [], Bool, IsTrue, true, false}
 use Rattle.std.specs.Prelude.{◌+◌, ◌<◌, ◌^◌, None, Some, is_some, MatchBool, sum}
+use Rattle.tty_base.specs.Sizes.{MOST_HANDLES}
 use Rattle.tty_base.specs.declared.characters.Flagged.{Flagged}
 use Rattle.tty_calls.specs.Plain.{PlainCall, handle_of, PlainAnswer, answered, parted, waited, answer_of}
 use Rattle.tty_calls.specs.Limits.{byte_count}
@@ -20,7 +21,7 @@ pub record IsReady (v : PortValue) (c step : ℕ) (call : PlainCall) : Type 0 wh
   pub known : c < sum v.counts
   pub next : step ≡ (caller_at v.terminal c).next
   pub not_over : (caller_at v.terminal c).over ≡ false
-  pub number : handle_of call < 32
+  pub number : handle_of call < MOST_HANDLES
   pub bytes : byte_count call < 2 ^ 32
   pub same : has_begun (caller_at v.terminal c) ≡ true → call_in v.kept c step ≡ Some call
   pub generation : (caller_at v.terminal c).waits ≡ None

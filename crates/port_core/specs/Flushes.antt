@@ -1,5 +1,6 @@
 -- What a piece of a flush run needs, and what it comes to.
 use Rattle.std.specs.Prelude.{◌≡◌, ◌⊎◌, ℕ, List, IsTrue, true, false, ◌<◌, ◌≤◌, MatchBool, length}
+use Rattle.tty_base.specs.Sizes.{PIECE}
 use Rattle.tty_base.specs.declared.characters.Flagged.{Flagged}
 use Rattle.word_ring.specs.Ends.{with_shown}
 use Rattle.flip_buffer.specs.Drops.{LooksAt}
@@ -14,7 +15,7 @@ use Rattle.port_core.specs.Ports.{PortValue, Appends, is_stuck, flush_entry}
 -- `most` characters at most are asked for; the piece continues the latest run, or begins the next one
 pub record IsPieceOf (v : PortValue) (run part most : ℕ) : Type 0 where
   pub some : 1 ≤ most
-  pub few : most ≤ 64
+  pub few : most ≤ PIECE
   pub numbered : IsTrue (follows v.terminal.flushed run part)
   pub one : 0 < part → RunHas run v.terminal.generation v.journal
 

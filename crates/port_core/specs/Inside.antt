@@ -1,6 +1,7 @@
 -- What the fields of a port stand for, and what they keep.
 use Rattle.std.specs.Prelude.{◌≡◌, ℕ, List, Bool, ◌<◌, true, false, Option}
 use Rattle.std.specs.Prelude.{None, Some, is_some, length, sum, slice_index_or}
+use Rattle.tty_base.specs.Sizes.{MOST_HANDLES}
 use Rattle.tty_calls.specs.Plain.{PlainCall, reads, writes, sets_modes, drains, handle_of}
 use Rattle.port_core.specs.declared.waiting.WaitingCall.{WaitingCall}
 use Rattle.port_core.specs.declared.waiting.WaitingCall.TheVariants as waiting
@@ -40,7 +41,7 @@ pub record IsWaitingCall (t : Terminal) (ks : List PlainKept) (c : ℕ) (slot : 
   pub copy : WaitingCall
   pub there : slot ≡ Some copy
   pub found : call_in ks c (caller_at t c).next ≡ Some (call_waiting copy)
-  pub number : handle_of (call_waiting copy) < 32
+  pub number : handle_of (call_waiting copy) < MOST_HANDLES
 
 -- of each caller that waits its call is there
 abbrev pub AreWaitingCalls : Terminal → List PlainKept → List (Option WaitingCall) → Type 0

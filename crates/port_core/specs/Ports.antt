@@ -1,7 +1,8 @@
 -- A port as a value: the terminal, the journal that leads to it, the calls that are kept, and the end of the flip
 -- buffer at which characters are taken out.
 use Rattle.std.specs.Prelude.{◌≡◌, ℕ, List, [], ◌∷◌, ◌++◌, Bool, true, false, ◌&&◌, ◌||◌, not}
-use Rattle.std.specs.Prelude.{Option, None, Some, ◌==◌, ◌*◌, ◌^◌, ◌<◌, ◌≤◌, if◌then◌else◌, length}
+use Rattle.std.specs.Prelude.{Option, None, Some, ◌==◌, ◌*◌, ◌<◌, ◌≤◌, if◌then◌else◌, length}
+use Rattle.tty_base.specs.Sizes.{COLUMNS_OF_ENTRY, MOST_ENTRIES, MOST_FLIP}
 use Rattle.tty_base.specs.declared.characters.Flagged.{Flagged}
 use Rattle.word_ring.specs.Ends.{TakerState}
 use Rattle.tty_calls.specs.declared.journals.Who.{Who}
@@ -52,12 +53,12 @@ pub record IsPort (v : PortValue) : Type 0 where
   pub chars : chars_of v.journal ≡ v.flip.taken
   -- a look counts at least what the last line end said was sent
   pub sent : v.terminal.sent ≤ v.flip.floor
-  pub capacity : v.flip.capacity ≤ 65536
+  pub capacity : v.flip.capacity ≤ MOST_FLIP
   -- so that numbers of 64 bits serve for the characters and for the column
-  pub bounded : length v.flip.taken ≤ 65536 * length v.journal
-  pub column : column_in v.terminal.disc ≤ 2 ^ 28 * length v.journal
+  pub bounded : length v.flip.taken ≤ MOST_FLIP * length v.journal
+  pub column : column_in v.terminal.disc ≤ COLUMNS_OF_ENTRY * length v.journal
   pub few : length v.journal ≤ v.limit
-  pub limit : v.limit ≤ 4194304
+  pub limit : v.limit ≤ MOST_ENTRIES
   pub begun : AllBegun v.terminal v.kept
 
 -- the port with one more entry

@@ -2,6 +2,7 @@
 //! it changes anything.
 
 ghost use Rattle.std.specs.Prelude.{◌≡◌, ◌≤◌, ◌<◌, [], true, IfOk, IfErr, OnOk};
+ghost use Rattle.tty_base.specs.Sizes.{PIECE};
 ghost use Rattle.tty_calls.specs.declared.journals.Who.TheVariants.{Caller, Flusher};
 ghost use Rattle.tty_calls.specs.Plain.{call_of, entry_of, event_of, flushed};
 ghost use Rattle.port_core.specs.Inside.{call_waiting, can_wait};
@@ -71,7 +72,7 @@ pub(crate) fn reserve_piece(
     chars: &mut Chars,
     most: usize,
 ) -> Result<(), NoMemory>
-    requires { most ≤ 64 }
+    requires { most ≤ PIECE }
     ensures journal { journal.new.items ≡ journal.old.items }
     ensures terminal { terminal.new.terminal ≡ terminal.old.terminal }
     ensures chars { chars.new.items ≡ chars.old.items }

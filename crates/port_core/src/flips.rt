@@ -1,7 +1,8 @@
 //! The flip buffer of a port, as the port's calls use it.
 
-ghost use Rattle.std.specs.Prelude.{◌≡◌, ℕ, ◌+◌, ◌-◌, ◌*◌, ◌^◌, ◌≤◌, ◌<◌, List};
-ghost use Rattle.std.specs.Prelude.{[], ◌∷◌, ◌++◌, true, false, length, take};
+ghost use Rattle.std.specs.Prelude.{◌≡◌, ◌+◌, ◌-◌, ◌*◌, ◌≤◌, ◌<◌};
+ghost use Rattle.std.specs.Prelude.{[], ◌++◌, true, false, length, take};
+ghost use Rattle.tty_base.specs.Sizes.{COLUMNS_OF_CHARACTER, COUNT_END, MOST_SENT, PIECE};
 ghost use Rattle.tty_base.specs.Characters.{good_characters};
 ghost use Rattle.tty_base.specs.declared.characters.Flagged.{Flagged};
 ghost use Rattle.word_ring.specs.Ends.{AreReleased, NothingWaits, with_shown};
@@ -55,22 +56,23 @@ pub(crate) fn hand_over(
     count: usize,
     chars: &mut Chars,
 ) -> usize
-    requires few { count ≤ 64 }
+    requires few { count ≤ PIECE }
     requires looked { flip.old.peeked ≡ [] }
     requires empty { chars.old.items ≡ [] }
     requires spare { count ≤ chars.old.spare }
     requires there { length flip.old.taken + count ≤ flip.old.floor }
-    requires taken { terminal.old.terminal.taken + count < 2 ^ 63 }
+    requires taken { terminal.old.terminal.taken + count < MOST_SENT }
     requires wire { room_for_characters terminal.old.terminal count ≤ terminal.old.wire_room }
     requires signals { count ≤ terminal.old.signal_room }
-    requires column { column_in terminal.old.terminal.disc + 2 ^ 22 * count < 2 ^ 62 }
+    requires column { column_in terminal.old.terminal.disc + COLUMNS_OF_CHARACTER * count < COUNT_END }
     ensures takes_out { TakesOut flip.old flip.new chars.new.items }
     ensures took { result ≡ length chars.new.items }
     ensures within { length chars.new.items ≤ count }
     ensures received { terminal.new.terminal ≡ after_characters terminal.old.terminal chars.new.items }
     ensures accepted { AcceptsAll terminal.old.terminal chars.new.items }
     ensures stops { length chars.new.items < count → accepts terminal.new.terminal ≡ false }
-    ensures column { column_in terminal.new.terminal.disc ≤ column_in terminal.old.terminal.disc + 2 ^ 22 * count }
+    ensures column { column_in terminal.new.terminal.disc
+        ≤ column_in terminal.old.terminal.disc + COLUMNS_OF_CHARACTER * count }
 {
     flip.peek(count, chars);
     let received = receive_front(terminal, chars, count);
@@ -82,16 +84,17 @@ pub(crate) fn hand_over(
 #[inline(always)]
 pub(crate) fn receive_front(terminal: &mut Terminal, chars: &mut Chars, count: usize) -> usize
     requires count { length chars.old.items ≡ count }
-    requires taken { terminal.old.terminal.taken + count < 2 ^ 63 }
+    requires taken { terminal.old.terminal.taken + count < MOST_SENT }
     requires wire { room_for_characters terminal.old.terminal count ≤ terminal.old.wire_room }
     requires signals { count ≤ terminal.old.signal_room }
-    requires column { column_in terminal.old.terminal.disc + 2 ^ 22 * count < 2 ^ 62 }
+    requires column { column_in terminal.old.terminal.disc + COLUMNS_OF_CHARACTER * count < COUNT_END }
     ensures front { chars.new.items ≡ take result chars.old.items }
     ensures within { result ≤ count }
     ensures received { terminal.new.terminal ≡ after_characters terminal.old.terminal (take result chars.old.items) }
     ensures accepted { AcceptsAll terminal.old.terminal (take result chars.old.items) }
     ensures stops { result < count → accepts terminal.new.terminal ≡ false }
-    ensures column { column_in terminal.new.terminal.disc ≤ column_in terminal.old.terminal.disc + 2 ^ 22 * count }
+    ensures column { column_in terminal.new.terminal.disc
+        ≤ column_in terminal.old.terminal.disc + COLUMNS_OF_CHARACTER * count }
 {
     let received = terminal.receive_all(chars.as_slice());
     keep_front(chars, count, received);
@@ -144,12 +147,12 @@ pub(crate) fn drop_rest(flip: &mut FlipOut, putter: FlipIn, dropped: &mut Chars)
 
 /// Puts the good characters of these bytes, where all that was put is known to be taken.
 pub(crate) fn put_good(putter: &mut FlipIn, bytes: &[u8])
-    requires few { length bytes.now ≤ 64 }
+    requires few { length bytes.now ≤ PIECE }
     requires known { putter.old.floor ≡ length putter.old.sent }
-    requires small { length putter.old.sent + length bytes.now ≤ 2 ^ 63 }
+    requires small { length putter.old.sent + length bytes.now ≤ MOST_SENT }
     ensures { putter.new ≡ with_put putter.old (good_characters bytes.now) }
 {
-    let _room = putter.capacity();
+    let _room = putter.capacity(); // known: its bound
     for byte in bytes {
         putter.put_known(Flagged::good(*byte));
     }
@@ -161,11 +164,11 @@ pub(crate) fn put_good(putter: &mut FlipIn, bytes: &[u8])
 pub(crate) fn take_given(flip: &mut FlipOut, putter: &mut FlipIn, bytes: &[u8; 8], received: usize)
     requires ring { putter.old.ring ≡ flip.old.ring }
     requires clear { NothingWaits putter.old flip.old }
-    requires small { length putter.old.sent + 8 ≤ 2 ^ 63 }
+    requires small { length putter.old.sent + 8 ≤ MOST_SENT }
     requires within { received ≤ 8 }
     ensures { TakesGiven flip.old flip.new putter.old putter.new (good_characters bytes.now) received }
 {
-    let _room = flip.capacity();
+    let _room = flip.capacity(); // known: its bound
     if received == 8 {
         flip.pass(putter, bytes);
     } else {
@@ -178,7 +181,7 @@ pub(crate) fn take_given(flip: &mut FlipOut, putter: &mut FlipIn, bytes: &[u8; 8
 fn take_front(flip: &mut FlipOut, putter: &mut FlipIn, bytes: &[u8; 8], count: usize)
     requires ring { putter.old.ring ≡ flip.old.ring }
     requires clear { NothingWaits putter.old flip.old }
-    requires small { length putter.old.sent + 8 ≤ 2 ^ 63 }
+    requires small { length putter.old.sent + 8 ≤ MOST_SENT }
     requires within { count ≤ 8 }
     ensures { TakesGiven flip.old flip.new putter.old putter.new (good_characters bytes.now) count }
 {

@@ -1,7 +1,8 @@
 //! A port: the entries that its clock and the ends of its callers make, what can be asked of it, and its laws.
 
-ghost use Rattle.std.specs.Prelude.{◌≡◌, ◌↔◌, ℕ, List, Option, [], ◌∷◌, ◌++◌, Bool, true, false};
-ghost use Rattle.std.specs.Prelude.{◌+◌, ◌≤◌, ◌<◌, IsTrue, IfOk, IfErr, OnOk, OnErr, length, sum};
+ghost use Rattle.std.specs.Prelude.{◌≡◌, ℕ, Option, [], false};
+ghost use Rattle.std.specs.Prelude.{◌+◌, ◌≤◌, ◌<◌, IsTrue, IfOk, IfErr, OnOk, length, sum};
+ghost use Rattle.tty_base.specs.Sizes.{MOST_ENTRIES, MOST_FLIP, MOST_PHASES};
 ghost use Rattle.tty_calls.specs.Plain.{PlainCall, ticked, clock_ended};
 ghost use Rattle.tty_calls.specs.declared.journals.Who.TheVariants.{Clock};
 
@@ -20,7 +21,7 @@ use std::marker::Model;
 use tty_base::{Moves, NoMemory, Signal};
 use tty_calls::{Denied, Entry, Event, Journal, PortEnd, Who};
 use tty_modes::Modes;
-use tty_terminal::{CallerState, Piece, Terminal};
+use tty_terminal::{CallerState, Terminal};
 
 /// A port. Contracts see it as the record `PortValue`.
 #[derive(Drop)]
@@ -53,7 +54,7 @@ impl Moves for Port {}
 
 /// How many callers there are in all phases.
 fn total(callers: &[u8]) -> usize
-    requires { length callers.now ≤ 64 }
+    requires { length callers.now ≤ MOST_PHASES }
     ensures { result ≡ sum callers.now }
 {
     callers.iter().map(|count| *count as usize).sum()
@@ -71,7 +72,7 @@ fn slots_for(alloc: Global, count: usize) -> Result<Vec<Option<WaitingCall>>, No
 impl Port {
     ghost use Rattle.tty_terminal.specs.Terminals.{opening, caller_at, handle_at, has_begun};
     ghost use Rattle.tty_terminal.specs.Steps.{may_end, quiet, callers_in, nothing_to_flush};
-    ghost use Rattle.tty_terminal.specs.Runs.{IsRun, Grows, AgreesOn};
+    ghost use Rattle.tty_terminal.specs.Runs.{IsRun, KnowsMore, AgreesOn};
     ghost use Rattle.tty_terminal.specs.Standing.{standing_of, standing_in, at_first};
     ghost use Rattle.tty_terminal.specs.Marks.{marks_of, marks_in, no_marks};
     ghost use Rattle.port_core.specs.Ports.{PortValue, IsPort, Appends, IsOpen, call_in};
@@ -80,11 +81,11 @@ impl Port {
     /// A closed port with N_TTY and the default modes, with so many callers in each phase, at most
     /// `limit` entries in its journal, and an end of a flip buffer from which nothing was taken.
     pub fn new(alloc: Global, callers: &[u8], limit: u32, flip: FlipOut) -> Result<Port, NoMemory>
-        requires phases { length callers.now ≤ 64 }
+        requires phases { length callers.now ≤ MOST_PHASES }
         requires some { 1 ≤ limit }
-        requires few { limit ≤ 4194304 }
+        requires few { limit ≤ MOST_ENTRIES }
         requires fresh { flip.taken ≡ [] }
-        requires small { flip.capacity ≤ 65536 }
+        requires small { flip.capacity ≤ MOST_FLIP }
         ensures { IfOk result (λ p.
             p
             ≡ record {
@@ -221,7 +222,7 @@ impl Port {
     }
 
     /// Whether no handle is live or the discipline does not accept.
-    pub fn is_stuck(&self) -> bool
+    pub(crate) fn is_stuck(&self) -> bool
         ensures { result ≡ is_stuck self.now.terminal }
     {
         !self.terminal.is_open() || !self.terminal.accepts()
@@ -264,13 +265,6 @@ impl Port {
         self.terminal.clock_is_over()
     }
 
-    /// The latest piece of a flush run.
-    pub fn latest_piece(&self) -> Option<Piece>
-        ensures { result ≡ self.now.terminal.flushed }
-    {
-        self.terminal.latest_piece()
-    }
-
     /// The journal so far. It is always a run that leads to the terminal, and its characters are those
     /// taken out of the flip buffer.
     pub fn journal(&self) -> &Journal
@@ -283,7 +277,7 @@ impl Port {
     /// How many discipline changes, hangups and last closes there were.
     pub fn generation(&self) -> u32
         ensures value { result ≡ self.now.terminal.generation }
-        ensures few { result ≤ 4194304 }
+        ensures few { result ≤ MOST_ENTRIES }
     {
         self.terminal.generation()
     }
@@ -323,28 +317,25 @@ impl Port {
         self.terminal.signals()
     }
 
-    // ---- laws of every port
+    // ---- what is known of every port
 
-    /// Where each caller stands follows from its own entries in the journal, and from the ends of
-    /// phases; so a caller that made these entries knows what `attempt` needs. All entries together
-    /// tell where line, clock and flush runs stand.
-    pub fn own_entries_tell(&self)
+    /// A law: what is known of every port. Its journal is a run that leads to the terminal. Where each caller stands
+    /// follows from its own entries and the ends of phases, so that a caller which made these knows what `attempt`
+    /// needs;
+    /// all entries together tell where line, clock and flush runs stand. The terminal counts what was taken out of the
+    /// flip buffer; no more is known to be sent than the flip buffer holds beside that, and once the line is over, no
+    /// more is taken than it sent.
+    pub fn known(&self)
+        ensures port { IsPort self.now }
         ensures callers { (c : ℕ)
             → standing_of (caller_at self.now.terminal c) ≡ standing_in c self.now.journal at_first }
         ensures marks { marks_of self.now.terminal ≡ marks_in self.now.journal no_marks }
-    {
-        let _ = &self.journal;
-    }
-
-    /// The terminal counts what was taken out of the flip buffer. No more is known to be sent than the
-    /// flip buffer holds beside that; and once the line is over, no more is taken than it sent.
-    pub fn numbers_tell(&self)
         ensures taken { self.now.terminal.taken ≡ length self.now.flip.taken }
         ensures capacity { self.now.terminal.capacity ≡ self.now.flip.capacity }
         ensures within { self.now.terminal.sent ≤ length self.now.flip.taken + self.now.flip.capacity }
         ensures line { IsTrue self.now.terminal.line_over → length self.now.flip.taken ≤ self.now.terminal.sent }
     {
-        let _ = &self.journal;
+        let _ = &self.journal; // known: the invariant
     }
 
     /// The journal, and what is left at the end. The journal is a run of every session that has the
@@ -353,7 +344,7 @@ impl Port {
         ensures journal { result.0.items ≡ self.journal }
         ensures port { IsPort self }
         ensures run { (session : ℕ → ℕ → Option PlainCall)
-            → Grows (call_in self.kept) session
+            → KnowsMore (call_in self.kept) session
             → IsRun session self.counts self.flip.capacity self.journal self.terminal }
         ensures agrees { (session : ℕ → ℕ → Option PlainCall)
             → AgreesOn (call_in self.kept) session self.journal

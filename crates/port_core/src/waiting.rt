@@ -1,6 +1,7 @@
 //! Calls that wait.
 
-ghost use Rattle.std.specs.Prelude.{◌≡◌, ◌↔◌, ◌^◌, ◌<◌, true, IsTrue, IfOk, length};
+ghost use Rattle.std.specs.Prelude.{◌≡◌, ◌↔◌, ◌<◌, true, IsTrue, IfOk, length};
+ghost use Rattle.tty_base.specs.Sizes.{COUNT_END, MOST_HANDLES};
 ghost use Rattle.tty_calls.specs.Plain.{call_of, handle_of};
 ghost use Rattle.ldisc_switch.specs.Disciplines.{column_in};
 ghost use Rattle.tty_terminal.specs.Terminals.{caller_at};
@@ -70,8 +71,8 @@ impl WaitingCall {
     #[inline(never)]
     pub(crate) fn must_wait(&self, caller: u16, terminal: &Terminal) -> bool
         requires known { caller < length terminal.now.terminal.callers }
-        requires number { handle_of (call_waiting self.now) < 32 }
-        requires column { column_in terminal.now.terminal.disc < 2 ^ 62 }
+        requires number { handle_of (call_waiting self.now) < MOST_HANDLES }
+        requires column { column_in terminal.now.terminal.disc < COUNT_END }
         ensures { IsTrue result
             ↔ MustWait
             (outcome terminal.now.terminal (caller_at terminal.now.terminal caller) (call_waiting self.now)) }

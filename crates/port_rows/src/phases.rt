@@ -4,10 +4,10 @@ ghost use Rattle.std.specs.Prelude.{IfSome};
 ghost use Rattle.tty_calls.specs.Limits.{IsWithinLimits};
 ghost use Rattle.tty_calls.specs.Sessions.{session_of};
 
-use many_threads::play;
 use session_text::{parse, spelled_sessions_are_within_limits};
 use std::alloc::Global;
 use std::test::Fail;
+use threads_play::play;
 use tty_base::Counts;
 use tty_calls::{AnswerRef, Event, Journal, PortEnd, PortRun, Session, Who};
 use tty_port::OpenGate;

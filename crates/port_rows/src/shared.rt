@@ -6,9 +6,9 @@ ghost use Rattle.std.specs.Thread.{IsSync};
 ghost use Rattle.tty_calls.specs.Plain.{call_of, handle_of};
 ghost use Rattle.tty_calls.specs.Limits.{byte_count};
 ghost use Rattle.port_cell.specs.Knowledge.{list_seen};
-ghost use Rattle.tty_port.specs.Seen.{IsBetween, next_run};
+ghost use Rattle.tty_port.specs.Seen.{IsBetweenCalls, next_run};
 ghost use Rattle.tty_port.specs.Flushing.{run_past};
-ghost use Rattle.tty_port.specs.Shared.{IsHere, AreHere, name_of_port, opening_history};
+ghost use Rattle.tty_port.specs.Shared.{IsHere, AreHere, name_of_port};
 
 use flip_buffer::{FlipIn, flip};
 use port_core::Port;
@@ -113,9 +113,9 @@ fn make<R: Wait, G: Gate>(
     requires known { (caller < 2) × (sum (name_of_port shared.now).counts ≡ 2) }
     requires number { handle_of (call_of call.now) < 32 }
     requires bytes { byte_count (call_of call.now) < 2 ^ 32 }
-    requires between { IsBetween caller step (list_seen seat.old) }
+    requires between { IsBetweenCalls caller step (list_seen seat.old) }
     ensures seat { IsHere shared.now caller seat.new }
-    ensures between { IfSome result (λ _. IsBetween caller (step + 1) (list_seen seat.new)) }
+    ensures between { IfSome result (λ _. IsBetweenCalls caller (step + 1) (list_seen seat.new)) }
 {
     shared.call(rt, seat, caller, step, call, gate).ok()
 }
@@ -134,9 +134,9 @@ fn makes<R: Wait, G: Gate>(
     requires known { (caller < 2) × (sum (name_of_port shared.now).counts ≡ 2) }
     requires number { handle_of (call_of call.now) < 32 }
     requires bytes { byte_count (call_of call.now) < 2 ^ 32 }
-    requires between { IsBetween caller step (list_seen seat.old) }
+    requires between { IsBetweenCalls caller step (list_seen seat.old) }
     ensures seat { IsHere shared.now caller seat.new }
-    ensures between { IfSome result (λ _. IsBetween caller (step + 1) (list_seen seat.new)) }
+    ensures between { IfSome result (λ _. IsBetweenCalls caller (step + 1) (list_seen seat.new)) }
 {
     let Some(answer) = make(rt, shared, seat, caller, step, call, gate) else {
         return None;
@@ -403,7 +403,7 @@ fn open_first<R: Wait>(rt: &R, shared: &SharedPort, seat: &mut Seat) -> Option<(
     requires seat { IsHere shared.now 0 seat.old × (list_seen seat.old ≡ []) }
     requires callers { sum (name_of_port shared.now).counts ≡ 2 }
     ensures seat { IsHere shared.now 0 seat.new }
-    ensures between { IfSome result (λ _. IsBetween 0 1 (list_seen seat.new)) }
+    ensures between { IfSome result (λ _. IsBetweenCalls 0 1 (list_seen seat.new)) }
 {
     let open = Call::Open {
         h: 0,
@@ -429,7 +429,7 @@ fn read_early<R: Wait>(
     requires bytes { byte_count (call_of raw.now) < 2 ^ 32 }
     ensures caller { IsHere shared.now 0 caller.new }
     ensures flusher { IsHere shared.now 2 flusher.new }
-    ensures between { IfSome result (λ _. IsBetween 0 3 (list_seen caller.new)) }
+    ensures between { IfSome result (λ _. IsBetweenCalls 0 3 (list_seen caller.new)) }
     ensures next { IfSome result (λ told. next_run (list_seen flusher.new) ≡ run_past 0 told.0) }
 {
     let Some(_opened) = open_first(rt, shared, caller) else {
@@ -476,7 +476,7 @@ fn end_callers<R: Wait>(
     first: &mut Seat,
     second: &mut Seat,
 ) -> Result<(), Denied>
-    requires first { IsHere shared.now 0 first.old × IsBetween 0 3 (list_seen first.old) }
+    requires first { IsHere shared.now 0 first.old × IsBetweenCalls 0 3 (list_seen first.old) }
     requires second { IsHere shared.now 1 second.old × (list_seen second.old ≡ []) }
     requires callers { sum (name_of_port shared.now).counts ≡ 2 }
     ensures first { IsHere shared.now 0 first.new }

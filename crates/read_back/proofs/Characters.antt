@@ -6,6 +6,7 @@ use Rattle.std.proofs.Common.{length, map, take, arith, length-append, length-ta
 use Rattle.std.specs.List.{AllByRecursion}
 use Rattle.std.proofs.lemmas.Bool.{cond_both, false≢true}
 use Rattle.std.proofs.lemmas.Nat.{mod_below}
+use Rattle.tty_base.specs.Sizes.{MOST_HELD}
 use Rattle.tty_base.specs.declared.characters.Flag.{Flag}
 use Rattle.tty_base.specs.declared.characters.Flag.TheVariants as flag
 use Rattle.tty_base.specs.declared.characters.Flagged.{Flagged}
@@ -55,7 +56,7 @@ pub record IsByteTty (most : ℕ) (tty : NTtyState) : Type 0 where
 pub record IsBytePort (most : ℕ) (port : OnPort) : Type 0 where
   pub tty : IsByteTty most port.tty
   pub counts : AreCounts port.tally.counts
-  pub held : length port.output.held ≤ 4096
+  pub held : length port.output.held ≤ MOST_HELD
 
 pub tty_more : (n m : ℕ) (tty : NTtyState) → n ≤ m → IsByteTty n tty → IsByteTty m tty
 tty_more n m tty few h = record { items = h.items; edit = h.edit; few = omega (arith, few, h.few) }
@@ -197,7 +198,7 @@ counts_kept counts counter.PacketFull n h = record {
 
 -- no more is held than can be
 abbrev pub HeldFits : Output → Type 0
-HeldFits output = length output.held ≤ 4096
+HeldFits output = length output.held ≤ MOST_HELD
 
 fits_halted : (halted fits : Bool) → (not halted || fits) ≡ true → halted ≡ true → fits ≡ true
 fits_halted true fits h is = h

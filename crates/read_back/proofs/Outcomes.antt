@@ -5,6 +5,7 @@ use Rattle.std.proofs.Common.{length, map, take, drop, refl, sym, ◌∙◌, ap,
 use Rattle.std.proofs.Common.{length-take, length-drop, length-set, ltb-false, take-take}
 use Rattle.std.specs.List.{AllByRecursion}
 use Rattle.std.proofs.lemmas.Bool.{cond_both}
+use Rattle.tty_base.specs.Sizes.{MOST_ASKED, MOST_READ, PIECE}
 use Rattle.tty_base.specs.declared.counters.Errno.{Errno}
 use Rattle.tty_base.specs.declared.counters.Errno.TheVariants.{EBADF, EEXIST, EBUSY, EAGAIN}
 use Rattle.tty_base.specs.declared.counters.Errno.TheVariants.{EIO, EINVAL, ENOTTY, EMSGSIZE}
@@ -88,7 +89,7 @@ pub record IsSized (few : ℕ) (t : Terminal) : Type 0 where
 -- a call sets mode words, and hands over no more than a number counts
 pub record IsSmallCall (call : PlainCall) : Type 0 where
   pub modes : SetsModeWords call
-  pub bytes : byte_count call ≤ 65536
+  pub bytes : byte_count call ≤ MOST_ASKED
 
 -- what was taken of the bytes that a call writes lies within them
 abbrev pub IsTaken : CallerState → PlainCall → Type 0
@@ -201,7 +202,7 @@ all_bytes (End ∷ items) h = all_bytes items h.1
 -- bytes that a number of 64 bits counts
 record IsRead (bytes : List ℕ) : Type 0 where
   are : AllBytes bytes
-  few : length bytes ≤ 4096
+  few : length bytes ≤ MOST_READ
 
 taken_read : (n : ℕ) (bytes : List ℕ) → AllBytes bytes → IsRead (take (read_size n) bytes)
 taken_read n bytes h = record {
@@ -294,21 +295,21 @@ posted_fits : (modes : Settings) (tty : NTtyState) (output : Output) (bytes : Li
     → HeldFits (after_send output (piece_text modes tty output bytes))
 posted_fits modes tty output bytes h =
     let n : ℕ = piece_size modes tty output bytes in
-    let few : n ≤ length (take 64 bytes) = fitting_count-le modes tty.column output (take 64 bytes) in
-    let same : take n (take 64 bytes) ≡ take n bytes =
-    take-take n 64 bytes (omega (arith, few, length-take 64 bytes)) in
+    let few : n ≤ length (take PIECE bytes) = fitting_count-le modes tty.column output (take PIECE bytes) in
+    let same : take n (take PIECE bytes) ≡ take n bytes =
+    take-take n PIECE bytes (omega (arith, few, length-take PIECE bytes)) in
     subst (λ (xs : List ℕ). HeldFits (after_send output (all_posted_bytes modes tty.column xs))) same
-    (fitting_fits modes (take 64 bytes) tty.column output h)
+    (fitting_fits modes (take PIECE bytes) tty.column output h)
 
 piece_few : (modes : Settings) (tty : NTtyState) (output : Output) (bytes : List ℕ)
     → piece_size modes tty output bytes ≤ length bytes
 piece_few modes tty output bytes =
-    omega (arith, fitting_count-le modes tty.column output (take 64 bytes), length-take 64 bytes)
+    omega (arith, fitting_count-le modes tty.column output (take PIECE bytes), length-take PIECE bytes)
 
 writing_met : (h0 : ℕ) (bytes : List ℕ) (few : ℕ) (t : Terminal)
     → IsSized few t
     → (s : CallerState)
-    → length bytes ≤ 65536
+    → length bytes ≤ MOST_ASKED
     → s.taken ≤ length bytes
     → (handle : Option HandleState)
     → IsMet (writes h0 bytes) few t (writing_outcome t s bytes handle)
@@ -364,7 +365,37 @@ pub sane_are : AreModes sane_modes
 sane_are = record {
   flags = refl;
   characters = refl;
-  bytes = are_bytes sane_modes.characters (omega arith, (omega arith, (omega arith, (omega arith, (omega arith, (omega arith, (omega arith, (omega arith, (omega arith, (omega arith, (omega arith, (omega arith, (omega arith, (omega arith, (omega arith, tt)))))))))))))));
+  bytes = are_bytes sane_modes.characters (
+    omega arith,
+    (
+      omega arith,
+      (
+        omega arith,
+        (
+          omega arith,
+          (
+            omega arith,
+            (
+              omega arith,
+              (
+                omega arith,
+                (
+                  omega arith,
+                  (
+                    omega arith,
+                    (
+                      omega arith,
+                      (omega arith, (omega arith, (omega arith, (omega arith, (omega arith, tt))))),
+                    ),
+                  ),
+                ),
+              ),
+            ),
+          ),
+        ),
+      ),
+    ),
+  );
 }
 
 word_kept : (modes : Settings) (word : Word) → IsModeWord word → AreModes modes → AreModes (after_word modes word)

@@ -5,6 +5,7 @@ use Rattle.std.proofs.Common.{sum, slice_get, refl, sym, ◌∙◌, ap, subst, a
 use Rattle.std.specs.Prelude.{slice_index_or}
 use Rattle.std.specs.List.{AllByRecursion}
 use Rattle.std.proofs.lemmas.Bool.{and_parts, or_cases, eqb-true, false≢true}
+use Rattle.tty_base.specs.Sizes.{MOST_ARRIVALS}
 use Rattle.tty_base.specs.declared.characters.Flagged.{Flagged}
 use Rattle.tty_calls.specs.declared.journals.Who.{Who}
 use Rattle.tty_calls.specs.declared.journals.Who.TheVariants.{Caller, Flusher, Line, Clock, Session}
@@ -25,8 +26,8 @@ use Rattle.tty_terminal.proofs.Runs.{Bounded, run_bounded, run_capacity, run_tak
 use Rattle.tty_terminal.proofs.StepLaws.{taken_after}
 use Rattle.tty_terminal.proofs.MarkLaws.{step_marks}
 use Rattle.tty_terminal.proofs.WaitLaws.{run_part_count, part_more}
-use Rattle.journal_check.specs.Legal.{name_at, has_script, phase_at, flip_on, IsInPhase, AreInPhases}
-use Rattle.journal_check.proofs.PhaseLemmas.{phase-after}
+use Rattle.legal_runs.specs.Legal.{name_at, has_script, phase_at, flip_on, IsInPhase, AreInPhases}
+use Rattle.legal_runs.proofs.PhaseLemmas.{phase-after}
 use Rattle.journal_bound.specs.Counts.{written_count}
 use Rattle.journal_bound.proofs.Crowded.{pay}
 use Rattle.journal_bound.proofs.Spent.{bytes_of, text_of, IsSound}
@@ -35,7 +36,7 @@ use Rattle.check_text.specs.Callers.{answer_kind, callers_on}
 use Rattle.check_text.specs.Fields.{or_else}
 use Rattle.check_text.specs.Entries.{call_of_entry}
 use Rattle.check_text.specs.Grammar.{most}
-use Rattle.check_text.specs.Printed.{IsAnswerTo, IsCallOf, IsEventOf, IsWhoOf, IsEntryOf}
+use Rattle.check_text.specs.Printed.{IsAnswerTo, IsAnsweredCall, IsEventOf, IsWhoOf, IsEntryOf}
 use Rattle.check_text.proofs.EntryLines.{kind_of_call}
 use Rattle.read_back.proofs.Lists.{each_first, each_last}
 use Rattle.read_back.proofs.Outcomes.{IsSized, met_answers, call_met}
@@ -124,7 +125,7 @@ module _ (p : ℕ) (session : PlainSession) (printable : IsPrintable p session) 
   who_is k Session step event h = tt
 
   module _ (before : List PlainEntry) (t : Terminal) (place : Place p session before t) (few : length before ≤ most)
-      (taken : t.taken ≤ 262144) where
+      (taken : t.taken ≤ MOST_ARRIVALS) where
     bounded : Bounded t (length before)
     bounded = run_bounded (call_at p session) (counts_on p session) (flip_on p session) before t place.run
 
@@ -211,7 +212,7 @@ module _ (p : ℕ) (session : PlainSession) (printable : IsPrintable p session) 
         → call_at p session c step ≡ o
         → step ≡ (caller_at t c).next
         → Answers may (outcome_of t (caller_at t c) o) a
-        → IsCallOf (callers_on p session) (Caller c) step (λ kind. IsAnswerTo kind a)
+        → IsAnsweredCall (callers_on p session) (Caller c) step (λ kind. IsAnswerTo kind a)
     answer_is c step may a None e at h = absurd h
     answer_is c step may a (Some call) e at h =
         let k = known c call (subst (λ (i : ℕ). call_at p session c i ≡ Some call) at e) in (
@@ -224,14 +225,14 @@ module _ (p : ℕ) (session : PlainSession) (printable : IsPrintable p session) 
     wait_is : (c step : ℕ) (o : Option PlainCall)
         → call_at p session c step ≡ o
         → MustWait (outcome_of t (caller_at t c) o)
-        → IsCallOf (callers_on p session) (Caller c) step (λ kind. Unit {0})
+        → IsAnsweredCall (callers_on p session) (Caller c) step (λ kind. Unit {0})
     wait_is c step None e h = absurd h
     wait_is c step (Some call) e h = (answer_kind call, call_kind c step call e, tt)
 
     part_is : (c step n : ℕ) (o : Option PlainCall)
         → call_at p session c step ≡ o
         → TakesPart (outcome_of t (caller_at t c) o) n
-        → IsCallOf (callers_on p session) (Caller c) step (λ kind. Unit {0}) × (n ≤ most)
+        → IsAnsweredCall (callers_on p session) (Caller c) step (λ kind. Unit {0}) × (n ≤ most)
     part_is c step n None e h = absurd h
     part_is c step n (Some call) e h =
         let small = (printable.calls c step call e).bytes in
@@ -332,7 +333,7 @@ module _ (p : ℕ) (session : PlainSession) (printable : IsPrintable p session) 
       → AreInPhases p session t.phase es
       → AreByteChars (chars_of es)
       → length before + length es ≤ most
-      → length (chars_of before) + length (chars_of es) ≤ 262144
+      → length (chars_of before) + length (chars_of es) ≤ MOST_ARRIVALS
       → AllByRecursion (IsEntryOf (callers_on p session)) es
   entries_are before t [] u place h in_phases small few taken = tt
   entries_are before t (e ∷ es) u place h in_phases small few taken =
@@ -342,7 +343,7 @@ module _ (p : ℕ) (session : PlainSession) (printable : IsPrintable p session) 
       let was : t.taken ≡ length (chars_of before) =
       run_taken (call_at p session) (counts_on p session) (flip_on p session) before t place.run in
       let few_before : length before ≤ most = omega (arith, few) in
-      let few_taken : t.taken ≤ 262144 = omega (arith, was, taken) in
+      let few_taken : t.taken ≤ MOST_ARRIVALS = omega (arith, was, taken) in
       let both : length (chars_in e.event ++ chars_of es) ≡ length (chars_in e.event) + length (chars_of es) =
       length-append (chars_in e.event) (chars_of es) in
       let more : length (chars_of (before ++ e ∷ [])) ≡ length (chars_of before) + length (chars_in e.event) =

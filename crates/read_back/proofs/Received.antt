@@ -3,6 +3,7 @@ use Rattle.std.proofs.Common.{◌≡◌, ℕ, ◌+◌, ◌-◌, ◌<◌, ◌≤�
 use Rattle.std.proofs.Common.{◌∷◌, ◌++◌, length, map, take, reverse, refl, sym, ap, ◌∙◌, subst, arith, length-append}
 use Rattle.std.specs.List.{AllByRecursion, list_any}
 use Rattle.std.proofs.lemmas.List.{reverse-append}
+use Rattle.tty_base.specs.Sizes.{MOST_ARRIVALS}
 use Rattle.tty_base.specs.declared.characters.Flagged.{Flagged}
 use Rattle.tty_base.specs.declared.lines.LineStep.{LineStep}
 use Rattle.tty_base.specs.declared.lines.LineStep.TheVariants.{Rx, Break, Idle, Mask, Unmask, Trigger}
@@ -16,7 +17,7 @@ use Rattle.uart_line.specs.Received.{is_cut, window, uncut_window, window_output
 use Rattle.uart_line.specs.Received.{received_list, lost_count_after, lost_count, closed_script, script}
 use Rattle.uart_line.specs.Offered.{kept_list_from, AreShown}
 use Rattle.uart_line.proofs.Steps.{arrival_count-append}
-use Rattle.journal_check.specs.Legal.{script_on, AreSeen}
+use Rattle.legal_runs.specs.Legal.{script_on, AreSeen}
 use Rattle.journal_bound.proofs.Characters.{script_arrivals}
 use Rattle.check_text.specs.Grammar.{most, IsOverrunWithin}
 use Rattle.read_back.proofs.Lists.{each_of_both, each_taken, each_at}
@@ -105,7 +106,7 @@ run_bytes p session overruns h = kept_bytes 0 (received_list (script_on p sessio
 
 pub few_arrive : (p : ℕ) (session : PlainSession)
     → IsWithinLimits session
-    → arrival_count (script_on p session) ≤ 262144
+    → arrival_count (script_on p session) ≤ MOST_ARRIVALS
 few_arrive p session limits = omega (arith, script_arrivals p session.phases, limits.few_characters p)
 
 lost_where : (b : Bool) (cs : List Flagged)

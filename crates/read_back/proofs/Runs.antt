@@ -2,6 +2,7 @@
 use Rattle.std.proofs.Common.{◌≡◌, ℕ, suc, ◌+◌, ◌≤◌, Some, List, [], ◌∷◌, ◌++◌, length}
 use Rattle.std.proofs.Common.{map, sum, slice_get, refl, sym, ap, subst, arith}
 use Rattle.std.specs.List.{range_with_len}
+use Rattle.tty_base.specs.Sizes.{MOST_ARRIVALS}
 use Rattle.tty_base.specs.declared.characters.Flagged.{Flagged}
 use Rattle.tty_base.specs.declared.lines.Overrun.{Overrun}
 use Rattle.tty_base.specs.Lines.{arrival_count}
@@ -18,8 +19,8 @@ use Rattle.tty_terminal.specs.Standing.{standing_of}
 use Rattle.tty_terminal.proofs.CallerLists.{all_idle}
 use Rattle.session_text.specs.Grammar.{Spells as SpellsSession}
 use Rattle.session_print.specs.Lines.{newline}
-use Rattle.journal_check.specs.Legal.{flip_on, script_on, IsLegal}
-use Rattle.journal_check.specs.Verdicts.{OfRun, AreLegal}
+use Rattle.legal_runs.specs.Legal.{flip_on, script_on, IsLegal}
+use Rattle.legal_runs.specs.Ports.{OfRun, AreLegal}
 use Rattle.journal_bound.proofs.Characters.{kept_few}
 use Rattle.journal_bound.proofs.Spent.{IsSound}
 use Rattle.journal_bound.proofs.Steps.{own}
@@ -74,7 +75,7 @@ run_is : (p : ℕ) (session : PlainSession) (run : PortRun) (t : Terminal)
 run_is p session run t h legal few =
     let overruns : List Overrun = run.line.overruns.items in
     let account = legal.account in
-    let arrived : arrival_count (script_on p session) ≤ 262144 = few_arrive p session h.limits in
+    let arrived : arrival_count (script_on p session) ≤ MOST_ARRIVALS = few_arrive p session h.limits in
     let received : length (received_list (script_on p session)) ≤ arrival_count (script_on p session) =
     received_few (script_on p session) in
     let kept : length (kept_list (received_list (script_on p session)) overruns)
@@ -84,8 +85,9 @@ run_is p session run t h legal few =
     let taken : length (chars_of run.journal.items)
     ≡ length (kept_list (received_list (script_on p session)) overruns) =
     ap (λ (cs : List Flagged). length cs) account.chars in
-    let many : length overruns ≤ 262144 =
-    few_overruns p session (flip_on p session) 0 0 262144 run.journal.items overruns (omega (arith, received, arrived))
+    let many : length overruns ≤ MOST_ARRIVALS =
+    few_overruns p session (flip_on p session) 0 0 MOST_ARRIVALS run.journal.items overruns
+    (omega (arith, received, arrived))
     account.shown account.seen in
     record {
       entries = entries_are p session h [] (opening (sum (counts_on p session)) (flip_on p session)) run.journal.items t

@@ -3,13 +3,14 @@ use Rattle.std.proofs.Common.{◌≡◌, ℕ, ◌≤◌, true, Some, List, [], s
 use Rattle.std.specs.Prelude.{All}
 use Rattle.std.specs.List.{AllByRecursion}
 use Rattle.std.proofs.lemmas.List.Elements.{recursion_from_All}
+use Rattle.tty_base.specs.Sizes.{MOST_FLIP}
 use Rattle.tty_calls.specs.Plain.{PlainCall}
 use Rattle.tty_calls.specs.Sessions.{PlainScript, PlainPhase, PlainSession, scripts_over, names_of, calls_of, call_at}
 use Rattle.tty_calls.specs.Limits.{IsCallWithin, IsScriptWithin, IsPhaseWithin, IsWithinLimits}
 use Rattle.text_lines.specs.Values.{is_name}
 use Rattle.session_text.specs.Grammar.{Spells}
 use Rattle.session_text.proofs.Within.{spelled_within}
-use Rattle.journal_check.specs.Legal.{name_at, flip_on}
+use Rattle.legal_runs.specs.Legal.{name_at, flip_on}
 use Rattle.read_back.proofs.Lists.{each_at, each_found, each_weaker}
 use Rattle.read_back.proofs.Outcomes.{IsSmallCall}
 use Rattle.session_text.specs.Writable.{SetsModeWords, IsWrittenScript, IsWrittenPhase}
@@ -21,7 +22,7 @@ pub record IsPrintable (p : ℕ) (session : PlainSession) : Type 0 where
   pub phases : AllByRecursion IsWrittenPhase session.phases
   pub calls : (c step : ℕ) (call : PlainCall) → call_at p session c step ≡ Some call → IsSmallCall call
   pub names : (c : ℕ) (name : List ℕ) → name_at p session c ≡ Some name → is_name name ≡ true
-  pub capacity : flip_on p session ≤ 65536
+  pub capacity : flip_on p session ≤ MOST_FLIP
 
 -- calls within limits, script by script
 calls_within : (ports : ℕ) (phases : List PlainPhase)
@@ -46,8 +47,8 @@ printable text session p h = record {
   };
   names = λ c name e. each_found (λ n. is_name n ≡ true) (names_of scripts) c name e
       (names_each (λ n. is_name n ≡ true) scripts [] tt named);
-  capacity = each_at (λ n. n ≤ 65536) session.flips p 0
-      (recursion_from_All (λ n. n ≤ 65536) session.flips limits.few_flip) (omega arith);
+  capacity = each_at (λ n. n ≤ MOST_FLIP) session.flips p 0
+      (recursion_from_All (λ n. n ≤ MOST_FLIP) session.flips limits.few_flip) (omega arith);
 }
   where
     limits : IsWithinLimits session

@@ -3,6 +3,7 @@
 use Rattle.std.specs.Prelude.{ℕ, ◌+◌, ◌-◌, ◌*◌, ◌%◌, ◌==◌, Bool, true}
 use Rattle.std.specs.Prelude.{if◌then◌else◌, List, [], ◌∷◌, map, replicate, codes}
 use Rattle.std.specs.List.{range_with_len}
+use Rattle.tty_base.specs.Sizes.{DEFAULT_FLIP}
 use Rattle.tty_modes.specs.declared.words.Word.TheVariants.{Raw}
 use Rattle.tty_calls.specs.declared.calls.Access.TheVariants.{Rw}
 use Rattle.tty_calls.specs.declared.calls.When.TheVariants.{Now}
@@ -46,6 +47,6 @@ abbrev pub generated_session : ℕ → PlainSession
 generated_session number = record {
   version = 1;
   ports = 4;
-  flips = replicate 4 4096;
+  flips = replicate 4 DEFAULT_FLIP;
   phases = opening_phase ∷ map (reading_phase number) (range_with_len 1 15);
 }

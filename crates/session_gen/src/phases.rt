@@ -1,6 +1,6 @@
 //! The session of a number, phase by phase.
 
-ghost use Rattle.std.specs.Prelude.{◌≡◌, ◌+◌, ◌*◌, ◌-◌, ◌<◌, ◌≤◌, ◌^◌, ℕ, [], ◌∷◌, map, replicate, codes, IfOk, OnOk};
+ghost use Rattle.std.specs.Prelude.{◌≡◌, ◌+◌, ◌*◌, ◌-◌, ◌<◌, ◌≤◌, ℕ, ◌∷◌, map, replicate, IfOk, OnOk};
 ghost use Rattle.std.specs.List.{range_with_len};
 ghost use Rattle.tty_calls.specs.Sessions.{script_of, phase_of, session_of};
 ghost use Rattle.session_gen.specs.Draws.{number_after, drawn_line};
@@ -11,6 +11,7 @@ use crate::draws::draw_line;
 use arrayvec::ArrayString;
 use line_steps::LineSteps;
 use std::alloc::Global;
+use tty_base::sizes::DEFAULT_FLIP;
 use tty_base::{Buffer, NoMemory};
 use tty_calls::{Access, Call, Calls, Phase, Script, Session, When};
 use tty_modes::Word;
@@ -18,9 +19,6 @@ use tty_modes::Word;
 const PORTS: u8 = 4;
 
 const PHASES: u8 = 16;
-
-/// How many characters each port's flip buffer holds.
-const FLIP: u32 = 4096;
 
 /// How many bytes a read asks for.
 const READ: u32 = 4000;
@@ -34,7 +32,7 @@ pub fn make(alloc: Global, number: u32) -> Result<Session, NoMemory>
     let mut flips = Buffer::new(alloc);
     flips.reserve(usize::from(PORTS))?;
     for _ in 0..PORTS {
-        flips.add(FLIP);
+        flips.add(DEFAULT_FLIP);
     }
     Ok(Session {
         version: 1,

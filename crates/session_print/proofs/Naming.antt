@@ -15,7 +15,7 @@ use Rattle.tty_calls.specs.Plain.{PlainCall, PlainEntry}
 use Rattle.tty_calls.specs.Sessions.{PlainScript, PlainSession, scripts_over, with_name}
 use Rattle.tty_calls.specs.Sessions.{names_of, number_in, calls_under, calls_of, call_at}
 use Rattle.session_print.specs.Lines.{call_line}
-use Rattle.session_print.specs.Report.{Told, told_from, told_in, told_line, answered_line, answer_in}
+use Rattle.session_print.specs.Report.{ToldCall, told_from, told_in, told_line, answered_line, answer_in}
 use Rattle.session_print.specs.Laws.{AnswersEvery, IsLineOf}
 use Rattle.session_print.proofs.Numbering.{place_within, name_at_place}
 
@@ -91,7 +91,7 @@ item_after [] rest call = refl
 item_after (x ∷ xs) rest call = item_after xs rest call
 
 -- the lines of some calls that are told
-abbrev Lines : ℕ → PlainSession → List PlainEntry → List Told → List ℕ → Type 0
+abbrev Lines : ℕ → PlainSession → List PlainEntry → List ToldCall → List ℕ → Type 0
 Lines p session es told text =
     (lines : List (List ℕ)) × (text ≡ concat lines) × AllZip (IsLineOf p session es) told lines
 
@@ -127,7 +127,7 @@ script_lines p session es all name c named step done (call ∷ calls) rest at is
     (ap (λ n. n + 1) at ∙ sym (length-append done (call ∷ [])))
     (is ∙ sym (append_assoc done (call ∷ []) (calls ++ rest))) in
     let line : List ℕ = call_line p name step call answer.0 in
-    let t : Told = record { name = name; caller = Some c; step = step; call = call } in (
+    let t : ToldCall = record { name = name; caller = Some c; step = step; call = call } in (
       line ∷ more.0,
       ap (λ a. answered_line p t a ++ flat_map (told_line p (answer_in es)) (told_from name (Some c) (step + 1) calls))
           answer.1
@@ -171,7 +171,7 @@ scripts_lines p session es all before (s ∷ ss) is =
     let here = script_lines p session es all s.name c (name_of_number names s.name c number.1) step
     (calls_under s.name before) s.calls (calls_under s.name ss) refl under in
     let more = scripts_lines p session es all (before ++ s ∷ []) ss (is ∙ sym (append_assoc before (s ∷ []) ss)) in
-    let rest : List Told = told_in names (before ++ s ∷ []) ss in (
+    let rest : List ToldCall = told_in names (before ++ s ∷ []) ss in (
       here.0 ++ more.0,
       ap (λ o. flat_map (told_line p (answer_in es)) (told_from s.name o step s.calls ++ rest)) number.1
           ∙ flat_map-append (told_line p (answer_in es)) (told_from s.name (Some c) step s.calls) rest
@@ -194,8 +194,8 @@ pub told_calls : (names : List (List ℕ)) (before ss : List PlainScript)
     → map (λ t. t.call) (told_in names before ss) ≡ flat_map (λ s. s.calls) ss
 told_calls names before [] = refl
 told_calls names before (s ∷ ss) =
-    let here : List Told = told_from s.name (number_in names s.name) (length (calls_under s.name before)) s.calls in
-    map-append (λ (t : Told). t.call) here (told_in names (before ++ s ∷ []) ss)
+    let here : List ToldCall = told_from s.name (number_in names s.name) (length (calls_under s.name before)) s.calls in
+    map-append (λ (t : ToldCall). t.call) here (told_in names (before ++ s ∷ []) ss)
     ∙ ap (λ cs. cs ++ map (λ t. t.call) (told_in names (before ++ s ∷ []) ss))
     (from_calls s.name (number_in names s.name) (length (calls_under s.name before)) s.calls)
     ∙ ap (λ cs. s.calls ++ cs) (told_calls names (before ++ s ∷ []) ss)

@@ -11,7 +11,7 @@ use Rattle.std.proofs.lemmas.List.Quantifiers.{position-Some}
 use Rattle.tty_calls.specs.Plain.{PlainCall, PlainAnswer}
 use Rattle.tty_calls.specs.Sessions.{PlainPhase, PlainScript, PlainSession}
 use Rattle.tty_calls.specs.Sessions.{scripts_over, names_of, number_in, calls_under}
-use Rattle.session_print.specs.Report.{Told, told_from, told_in, told_on, told_line, answer_to, answered_line}
+use Rattle.session_print.specs.Report.{ToldCall, told_from, told_in, told_on, told_line, answer_to, answered_line}
 use Rattle.session_print.specs.Printing.{told_script, steps_then, told_scripts}
 
 is_same : (a b : List ℕ) → bytes_eq a b ≡ true → a ≡ b
@@ -146,14 +146,14 @@ goes_on p answers names before (s ∷ ss) steps h =
         (told_from s.name o (length (calls_under s.name before)) s.calls ++ told_in names (before ++ s ∷ []) ss)
     either None none go =
         let step : ℕ = length (calls_under s.name before) in
-        let rest : List Told = told_in names (before ++ s ∷ []) ss in
+        let rest : List ToldCall = told_in names (before ++ s ∷ []) ss in
         go steps (stands_none names before steps s none h)
         ∙ ap (λ xs. xs ++ flat_map (told_line p answers) rest) (sym (told_none p answers s.name step s.calls))
         ∙ sym (flat_map-append (told_line p answers) (told_from s.name None step s.calls) rest)
     either (Some n) at go =
         let then : List ℕ = set steps n (get_or steps n 0 + length s.calls) in
-        let mine : List Told = told_from s.name (Some n) (get_or steps n 0) s.calls in
-        let rest : List Told = told_in names (before ++ s ∷ []) ss in
+        let mine : List ToldCall = told_from s.name (Some n) (get_or steps n 0) s.calls in
+        let rest : List ToldCall = told_in names (before ++ s ∷ []) ss in
         flat_map-append (told_line p answers) mine (told_scripts names then ss)
         ∙ ap (λ xs. flat_map (told_line p answers) mine ++ xs) (go then (stands_some names before steps s n at h))
         ∙ sym (flat_map-append (told_line p answers) mine rest)
@@ -161,7 +161,7 @@ goes_on p answers names before (s ∷ ss) steps h =
 
 same_line : (p : ℕ) (found answers : ℕ → ℕ → Option PlainAnswer)
     → ((c step : ℕ) → found c step ≡ answers c step)
-    → (t : Told) (c : Option ℕ)
+    → (t : ToldCall) (c : Option ℕ)
     → answered_line p t (answer_to found c t.step) ≡ answered_line p t (answer_to answers c t.step)
 same_line p found answers same t None = refl
 same_line p found answers same t (Some c) = ap (answered_line p t) (same c t.step)
@@ -169,7 +169,7 @@ same_line p found answers same t (Some c) = ap (answered_line p t) (same c t.ste
 -- two ways to find answers that come to the same tell the same
 pub same_lines : (p : ℕ) (found answers : ℕ → ℕ → Option PlainAnswer)
     → ((c step : ℕ) → found c step ≡ answers c step)
-    → (ts : List Told)
+    → (ts : List ToldCall)
     → flat_map (told_line p found) ts ≡ flat_map (told_line p answers) ts
 same_lines p found answers same [] = refl
 same_lines p found answers same (t ∷ ts) =

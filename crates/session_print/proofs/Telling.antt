@@ -9,7 +9,7 @@ use Rattle.tty_calls.specs.declared.sessions.Phase.{Phase}
 use Rattle.tty_calls.specs.Sessions.{PlainScript, phase_of, scripts_over, number_in}
 use Rattle.tty_calls.specs.Plain.{PlainCall, PlainAnswer}
 use Rattle.session_print.specs.Lines.{call_line}
-use Rattle.session_print.specs.Report.{Told, answered_line, told_line, told_from}
+use Rattle.session_print.specs.Report.{ToldCall, answered_line, told_line, told_from}
 use Rattle.session_print.proofs.Pieces.{next_item, drop_all}
 use Rattle.session_print.specs.Printing.{call_head, call_rest, tens, scripts_for}
 use Rattle.session_print.specs.Printing.{told_script, steps_then, told_scripts, steps_after}
@@ -59,7 +59,7 @@ module _ (p : ℕ) (answers : ℕ → ℕ → Option PlainAnswer) (name first : 
       → new ≡ text ++ told_line p answers (record { name = name; caller = Some c; step = s; call = call })
       → Stepping p answers name first caller step calls new front_new shared_new c (s + 1) (i + 1)
   stepping_more call at put =
-      let line : Told → List ℕ = told_line p answers in
+      let line : ToldCall → List ℕ = told_line p answers in
       let here : List ℕ = line (record { name = name; caller = Some c; step = s; call = call }) in
       let rest : List ℕ = flat_map line (told_from name (Some c) (s + 1) (drop (i + 1) calls)) in
       let next : drop i calls ≡ call ∷ drop (i + 1) calls =
@@ -110,7 +110,7 @@ told_append : (names : List (List ℕ)) (steps : List ℕ) (xs ys : List PlainSc
     ≡ told_scripts names steps xs ++ told_scripts names (steps_after names steps xs) ys
 told_append names steps [] ys = refl
 told_append names steps (s ∷ ss) ys =
-    let here : List Told = told_script steps s (number_in names s.name) in
+    let here : List ToldCall = told_script steps s (number_in names s.name) in
     let next : List ℕ = steps_then steps s (number_in names s.name) in
     ap (λ ts. here ++ ts) (told_append names next ss ys)
     ∙ sym (append_assoc here (told_scripts names next ss) (told_scripts names (steps_after names next ss) ys))
@@ -128,8 +128,8 @@ pub phasing_more : (p : ℕ) (answers : ℕ → ℕ → Option PlainAnswer) (nam
     → Phasing p answers names first steps phases new then (i + 1)
 phasing_more p answers names first steps phases text new now then i phase scripts h within at its put after each =
     let rest : List PlainScript = scripts_over p (map phase_of (drop (i + 1) phases)) in
-    let line : Told → List ℕ = told_line p answers in
-    let here : List Told = told_scripts names now (scripts_for p scripts) in
+    let line : ToldCall → List ℕ = told_line p answers in
+    let here : List ToldCall = told_scripts names now (scripts_for p scripts) in
     record {
       left =
           ap (λ xs. xs ++ flat_map line (told_scripts names then rest)) put

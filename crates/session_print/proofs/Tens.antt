@@ -15,14 +15,6 @@ few step h = ap (λ b. cond b [] (decimal (step / 10))) (lt-ltb step 10 h)
 many : (step : ℕ) → 10 ≤ step → tens step ≡ decimal (step / 10)
 many step h = ap (λ b. cond b [] (decimal (step / 10))) (le-ltb step 10 h)
 
--- ten steps share them
-pub tens_shared : (a b : ℕ) → a / 10 ≡ b / 10 → tens a ≡ tens b
-tens_shared a b same =
-    ⊎_elim (λ is. many a (omega (arith, is)) ∙ ap decimal same ∙ sym (many b (omega (arith, is, same))))
-    (λ apart. ⊎_elim (λ less. few a less ∙ sym (few b (omega (arith, less, same))))
-    (λ more. many a (omega (arith, more)) ∙ ap decimal same ∙ sym (many b (omega (arith, more, same)))) apart)
-    (cases_order a 10)
-
 -- a number of two digits or more, by its last one
 pub by_last_digit : (n : ℕ) → 10 ≤ n → n < 2 ^ 64 → decimal (n / 10) ++ decimal (n % 10) ≡ decimal n
 by_last_digit n more small =

@@ -5,7 +5,7 @@ use Rattle.tty_calls.specs.declared.journals.PortRun.{PortRun}
 use Rattle.tty_calls.specs.Plain.{PlainCall, PlainAnswer, PlainEntry}
 use Rattle.tty_calls.specs.Sessions.{PlainSession, scripts_over, names_of, call_at}
 use Rattle.session_print.specs.Lines.{call_line}
-use Rattle.session_print.specs.Report.{Told, told_on, answer_in, calls_text}
+use Rattle.session_print.specs.Report.{ToldCall, told_on, answer_in, calls_text}
 
 -- each call of a port is answered by these entries
 abbrev pub AnswersEvery : ℕ → PlainSession → List PlainEntry → Type 0
@@ -16,7 +16,7 @@ AnswersEvery p session es =
 
 -- The line of a call that is told: it is the session's call of this caller and step, and the line has the name of the
 -- caller, the step, and the answer that these entries have for them.
-pub record IsLineOf (p : ℕ) (session : PlainSession) (es : List PlainEntry) (told : Told) (line : List ℕ) : Type 0 where
+pub record IsLineOf (p : ℕ) (session : PlainSession) (es : List PlainEntry) (told : ToldCall) (line : List ℕ) : Type 0 where
   pub caller : ℕ
   pub answer : PlainAnswer
   pub numbered : told.caller ≡ Some caller

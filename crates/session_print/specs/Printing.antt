@@ -17,7 +17,7 @@ use Rattle.tty_calls.specs.Sessions.{PlainScript, script_of, number_in}
 use Rattle.session_print.specs.Words.{verb_of, answer_text}
 use Rattle.session_print.specs.Journals.{event_text, who_text}
 use Rattle.session_print.specs.Lines.{newline, flushed_count, dropped_count}
-use Rattle.session_print.specs.Report.{Told, told_from, answer_of_event}
+use Rattle.session_print.specs.Report.{ToldCall, told_from, answer_of_event}
 use Rattle.session_print.specs.declared.answers.Answers.{Answers}
 use Rattle.session_print.specs.declared.fronts.Front.{Front}
 use Rattle.session_print.specs.declared.places.Places.{Places}
@@ -124,7 +124,7 @@ abbrev pub scripts_for : ℕ → List Script → List PlainScript
 scripts_for p scripts = filter (λ s. s.port == p) (map script_of scripts)
 
 -- a script's calls, by each caller's next step; and the next steps after it
-abbrev pub told_script : List ℕ → PlainScript → Option ℕ → List Told
+abbrev pub told_script : List ℕ → PlainScript → Option ℕ → List ToldCall
 told_script steps s None = []
 told_script steps s (Some c) = told_from s.name (Some c) (slice_index steps c) s.calls
 
@@ -133,7 +133,7 @@ steps_then steps s None = steps
 steps_then steps s (Some c) = slice_set steps c (slice_index steps c + length s.calls)
 
 -- the calls of scripts one after the other, by each caller's next step; and the next steps after them
-abbrev pub told_scripts : List (List ℕ) → List ℕ → List PlainScript → List Told
+abbrev pub told_scripts : List (List ℕ) → List ℕ → List PlainScript → List ToldCall
 told_scripts names steps [] = []
 told_scripts names steps (s ∷ ss) =
     told_script steps s (number_in names s.name) ++ told_scripts names (steps_then steps s (number_in names s.name)) ss

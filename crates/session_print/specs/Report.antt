@@ -32,27 +32,27 @@ answer_in [] c step = None
 answer_in (e ∷ es) c step = option_or (answer_in es c step) (answer_by e c step)
 
 -- a call as a report tells it: its caller's name and number, its step, and what it calls
-pub record Told : Type 0 where
+pub record ToldCall : Type 0 where
   pub name : List ℕ
   pub caller : Option ℕ
   pub step : ℕ
   pub call : PlainCall
 
 -- a caller's calls, from this step on
-abbrev pub told_from : List ℕ → Option ℕ → ℕ → List PlainCall → List Told
+abbrev pub told_from : List ℕ → Option ℕ → ℕ → List PlainCall → List ToldCall
 told_from name c step [] = []
 told_from name c step (call ∷ calls) =
     record { name = name; caller = c; step = step; call = call } ∷ told_from name c (step + 1) calls
 
 -- the calls of scripts that come after others: a caller's steps go on over its scripts
-abbrev pub told_in : List (List ℕ) → List PlainScript → List PlainScript → List Told
+abbrev pub told_in : List (List ℕ) → List PlainScript → List PlainScript → List ToldCall
 told_in names before [] = []
 told_in names before (s ∷ ss) =
     told_from s.name (number_in names s.name) (length (calls_under s.name before)) s.calls
     ++ told_in names (before ++ s ∷ []) ss
 
 -- the calls of a port, in the text's order
-abbrev pub told_on : ℕ → PlainSession → List Told
+abbrev pub told_on : ℕ → PlainSession → List ToldCall
 told_on p session = told_in (names_of (scripts_over p session.phases)) [] (scripts_over p session.phases)
 
 -- the answer to a told call, by the answers of each caller and step
@@ -61,11 +61,11 @@ answer_to answers None step = None
 answer_to answers (Some c) step = answers c step
 
 -- the line of a call that was answered
-abbrev pub answered_line : ℕ → Told → Option PlainAnswer → List ℕ
+abbrev pub answered_line : ℕ → ToldCall → Option PlainAnswer → List ℕ
 answered_line p t None = []
 answered_line p t (Some answer) = call_line p t.name t.step t.call answer
 
-abbrev pub told_line : ℕ → (ℕ → ℕ → Option PlainAnswer) → Told → List ℕ
+abbrev pub told_line : ℕ → (ℕ → ℕ → Option PlainAnswer) → ToldCall → List ℕ
 told_line p answers t = answered_line p t (answer_to answers t.caller t.step)
 
 -- the lines of the calls of a port

@@ -74,7 +74,7 @@ fn put_run(
     ensures { OnOk result
         (string_bytes text.new ≡ string_bytes text.old ++ journal_on port (session_of session.now) run.now) }
 {
-    let _ = session;
+    let _ = session; // for the contract alone
     put_heading(text, "journal ", port, run.journal.len())?;
     put_entries(text, names, &run.journal)?;
     put_heading(text, "overruns ", port, run.line.overruns.len())?;

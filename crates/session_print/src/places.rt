@@ -1,9 +1,9 @@
 //! Places of entries in a journal, by caller and step.
 
-ghost use Rattle.std.specs.Prelude.{◌≡◌, ℕ, ◌<◌, OnOk, if◌then◌else◌, ◌==◌, slice_index, slice_index_or};
+ghost use Rattle.std.specs.Prelude.{◌≡◌, ℕ, ◌<◌, OnOk, if◌then◌else◌, ◌==◌, slice_index};
 ghost use Rattle.std.specs.Option.{option_map};
 ghost use Rattle.tty_calls.specs.Plain.{entry_of};
-ghost use Rattle.session_print.specs.Printing.{same_turn, stretch_of, stretches_of, no_stretch, place_at};
+ghost use Rattle.session_print.specs.Printing.{same_turn, stretch_of, stretches_of, place_at};
 ghost use Rattle.session_print.specs.Printing.{place_on as place_by_row, place_in, entry_at as entry_by_place};
 
 use std::alloc::{AllocError, Global};

@@ -9,11 +9,11 @@ use Rattle.tty_base.specs.declared.lines.LineStep.{LineStep}
 use Rattle.tty_calls.specs.Plain.{PlainCall}
 use Rattle.tty_calls.specs.Sessions.{PlainScript, PlainPhase}
 use Rattle.session_text.specs.declared.verbs.Verb.TheVariants.{Tick}
-use Rattle.session_text.specs.declared.stands.Place.{Place}
-use Rattle.session_text.specs.declared.stands.Place.TheVariants as place
+use Rattle.session_text.specs.declared.stands.ItemPlace.{ItemPlace}
+use Rattle.session_text.specs.declared.stands.ItemPlace.TheVariants as place
 use Rattle.session_text.specs.Meaning.{with_steps, with_ticks}
 use Rattle.session_text.specs.Drafts.{with_call}
-use Rattle.session_text.specs.Grammar.{Item, steps_by, ticks_by, calls_by}
+use Rattle.session_text.specs.Grammar.{WrittenItem, steps_by, ticks_by, calls_by}
 
 -- ---- a list with one place changed
 
@@ -106,13 +106,13 @@ calls_at_end calls (first ∷ other ∷ scripts) script =
 
 -- ---- the items of the open block
 
-abbrev pub with_own : Place → ℕ → List Item → PlainPhase → PlainPhase
+abbrev pub with_own : ItemPlace → ℕ → List WrittenItem → PlainPhase → PlainPhase
 with_own place.Line port own phase = with_steps port (flat_map steps_by own) phase
 with_own place.Clock port own phase = with_ticks port (sum_by ticks_by own) phase
 with_own place.Caller port own phase = record phase { callers = with_calls (flat_map calls_by own) phase.callers }
 with_own other port own phase = phase
 
-pub own_nothing : (at : Place) (port : ℕ) (phase : PlainPhase) → with_own at port [] phase ≡ phase
+pub own_nothing : (at : ItemPlace) (port : ℕ) (phase : PlainPhase) → with_own at port [] phase ≡ phase
 own_nothing place.Line port phase = steps_none port phase
 own_nothing place.Clock port phase = ticks_none port phase
 own_nothing place.Caller port phase =
@@ -123,12 +123,12 @@ own_nothing place.Before port phase = refl
 own_nothing place.Phase port phase = refl
 own_nothing place.Ended port phase = refl
 
-pub tick_own : (port : ℕ) (arguments : List (List ℕ)) (own : List Item) (n : ℕ) (phase : PlainPhase)
+pub tick_own : (port : ℕ) (arguments : List (List ℕ)) (own : List WrittenItem) (n : ℕ) (phase : PlainPhase)
     → ticks_by (record { verb = Tick; arguments = arguments }) ≡ n
     → with_ticks port (sum_by ticks_by own) (with_ticks port n phase)
     ≡ with_ticks port (sum_by ticks_by (record { verb = Tick; arguments = arguments } ∷ own)) phase
 tick_own port arguments own n phase e =
-    let item : Item = record { verb = Tick; arguments = arguments } in
+    let item : WrittenItem = record { verb = Tick; arguments = arguments } in
     let cons = sum_by-cons ticks_by item own in
     ticks_twice port n (sum_by ticks_by own) phase
     ∙ ap (λ (m : ℕ). with_ticks port m phase)

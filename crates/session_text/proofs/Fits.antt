@@ -8,17 +8,18 @@ use Rattle.std.specs.Str.{bytes_eq}
 use Rattle.std.specs.Prelude.{codes}
 use Rattle.std.proofs.lemmas.Bool.{and_parts}
 use Rattle.std.proofs.lemmas.Bool.Decides.{Decides-eqb}
+use Rattle.tty_base.specs.Sizes.{MOST_ASKED}
 use Rattle.text_lines.specs.Values.{is_number, is_hex, number_of, word_at, number_at}
 use Rattle.session_text.specs.declared.faults.Reason.{Reason}
 use Rattle.session_text.specs.declared.faults.Reason.TheVariants as reason
-use Rattle.session_text.specs.declared.kinds.Kind.{Kind}
-use Rattle.session_text.specs.declared.kinds.Kind.TheVariants as kind
+use Rattle.session_text.specs.declared.kinds.ArgumentKind.{ArgumentKind}
+use Rattle.session_text.specs.declared.kinds.ArgumentKind.TheVariants as kind
 use Rattle.session_text.specs.declared.verbs.Verb.{Verb}
 use Rattle.session_text.specs.declared.verbs.Verb.TheVariants.{Session, Call}
 use Rattle.session_text.specs.declared.verbs.CallVerb.{CallVerb}
 use Rattle.session_text.specs.declared.verbs.CallVerb.TheVariants as call
-use Rattle.session_text.specs.declared.stands.Place.{Place}
-use Rattle.session_text.specs.declared.stands.Place.TheVariants as place
+use Rattle.session_text.specs.declared.stands.ItemPlace.{ItemPlace}
+use Rattle.session_text.specs.declared.stands.ItemPlace.TheVariants as place
 use Rattle.session_text.specs.Verbs.{verb_of}
 use Rattle.session_text.specs.Kinds.{may_have, kind_at, fault_of, fault_from, limit_fault, word_fault}
 use Rattle.session_text.specs.Meaning.{hands_over}
@@ -92,7 +93,7 @@ range_from ports verb (word ∷ words) from zero least most h k =
     let here : kind_at verb from ≡ kind.Number least most =
     let same : from + 0 ≡ from = omega arith in subst (λ (n : ℕ). kind_at verb n ≡ kind.Number least most) same k in
     in_range (is_number word) (number_of word) least most
-    (subst (λ (k : Kind). fault_of ports k word ≡ None) here
+    (subst (λ (k : ArgumentKind). fault_of ports k word ≡ None) here
     (left_none (fault_of ports (kind_at verb from) word) (fault_from ports verb (from + 1) words) h))
 range_from ports verb (word ∷ words) from (suc at) least most h k =
     let same : from + suc at ≡ from + 1 + at = omega arith in
@@ -123,7 +124,7 @@ second_is_number ports verb words least most good two k =
     let both : length words ≡ 2 = (Decides-eqb (length words) 2).0 (sym two ∙ parts.0) in
     let word = word_at words 1 in
     number_none (is_number word) (nat_le least (number_of word) && nat_le (number_of word) most)
-    (subst (λ (k : Kind). fault_of ports k word ≡ None) k
+    (subst (λ (k : ArgumentKind). fault_of ports k word ≡ None) k
     (no_fault_at ports verb words 0 1 parts.1 (omega (arith, both))))
 
 hex_none : (hex fits : Bool) → cond hex (limit_fault fits) (Some reason.Hex) ≡ None → hex ≡ true
@@ -141,7 +142,7 @@ second_is_hex ports verb words most good two k =
     let both : length words ≡ 2 = (Decides-eqb (length words) 2).0 (sym two ∙ parts.0) in
     let word = word_at words 1 in
     hex_none (is_hex word) (nat_le (length word / 2) most)
-    (subst (λ (k : Kind). fault_of ports k word ≡ None) k
+    (subst (λ (k : ArgumentKind). fault_of ports k word ≡ None) k
     (no_fault_at ports verb words 0 1 parts.1 (omega (arith, both))))
 
 -- what is written or sent is HEX
@@ -149,8 +150,8 @@ pub handed_is_hex : (ports : ℕ) (verb : CallVerb) (words : List (List ℕ))
     → hands_over verb ≡ true
     → is_good ports (Call verb) words ≡ true
     → is_hex (word_at words 1) ≡ true
-handed_is_hex ports call.Write words over good = second_is_hex ports (Call call.Write) words 65536 good refl refl
-handed_is_hex ports call.Send words over good = second_is_hex ports (Call call.Send) words 65536 good refl refl
+handed_is_hex ports call.Write words over good = second_is_hex ports (Call call.Write) words MOST_ASKED good refl refl
+handed_is_hex ports call.Send words over good = second_is_hex ports (Call call.Send) words MOST_ASKED good refl refl
 handed_is_hex ports call.Open words over good = absurd (cc)
 handed_is_hex ports call.Close words over good = absurd (cc)
 handed_is_hex ports call.Read words over good = absurd (cc)
@@ -178,7 +179,7 @@ port_from ports verb (word ∷ words) from zero h k =
     let here : kind_at verb from ≡ kind.Port =
     let same : from + 0 ≡ from = omega arith in subst (λ (n : ℕ). kind_at verb n ≡ kind.Port) same k in
     below (is_number word) (number_of word) ports
-    (subst (λ (k : Kind). fault_of ports k word ≡ None) here
+    (subst (λ (k : ArgumentKind). fault_of ports k word ≡ None) here
     (left_none (fault_of ports (kind_at verb from) word) (fault_from ports verb (from + 1) words) h))
 port_from ports verb (word ∷ words) from (suc at) h k =
     let same : from + suc at ≡ from + 1 + at = omega arith in
@@ -194,10 +195,6 @@ pub good_port : (ports : ℕ) (verb : Verb) (words : List (List ℕ)) (at : ℕ)
 good_port ports verb words at h k = port_from ports verb words 0 at (good_parts ports verb words h).1 k
 
 -- ---- what was judged good
-
-and_both : (a b : Bool) → a ≡ true → b ≡ true → (a && b) ≡ true
-and_both true b p q = q
-and_both false b p q = cc
 
 fault_good : (s : PlainStand) (verb : Verb) (words : List (List ℕ)) (stands has : Bool) (fault late : Option Reason)
     → cond stands (cond has (option_or fault late) (Some reason.Word)) (Some reason.Order) ≡ None
@@ -248,7 +245,7 @@ judged_other_good : (s : PlainStand) (word : List ℕ) (words : List (List ℕ))
 judged_other_good s word words found h =
     item_good s found words (judged_verb_good s (verb_of s.version word) words found h).1
 
-good_at : (s : PlainStand) (at : Place) (word : List ℕ) (words : List (List ℕ)) (found : Verb)
+good_at : (s : PlainStand) (at : ItemPlace) (word : List ℕ) (words : List (List ℕ)) (found : Verb)
     → verdict_at s at word words ≡ Ok found
     → is_good s.ports found words ≡ true
 good_at s place.Start word words found h = judged_first_good s word words found h

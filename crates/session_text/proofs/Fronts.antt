@@ -2,14 +2,15 @@
 use Rattle.std.proofs.Common.{◌≡◌, ℕ, Bool, true, false, not, cond, List, [], ◌∷◌, ◌++◌}
 use Rattle.std.proofs.Common.{Result, Ok, Err, map, refl, ap, sym, subst, ◌∙◌, ◌≤◌}
 use Rattle.std.specs.Prelude.{filter}
+use Rattle.tty_base.specs.Sizes.{MOST_PORTS}
 use Rattle.tty_calls.specs.Sessions.{PlainSession}
 use Rattle.text_lines.specs.Lines.{says, first_is}
 use Rattle.session_text.specs.declared.faults.Reason.{Reason}
 use Rattle.session_text.specs.declared.faults.Reason.TheVariants as reason
 use Rattle.session_text.specs.declared.faults.BadLine.{BadLine}
 use Rattle.session_text.specs.declared.verbs.Verb.{Verb}
-use Rattle.session_text.specs.declared.stands.Place.{Place}
-use Rattle.session_text.specs.declared.stands.Place.TheVariants as place
+use Rattle.session_text.specs.declared.stands.ItemPlace.{ItemPlace}
+use Rattle.session_text.specs.declared.stands.ItemPlace.TheVariants as place
 use Rattle.session_text.specs.Verbs.{verb_text}
 use Rattle.session_text.specs.Stands.{is_ended, verdict_on}
 use Rattle.session_text.specs.Drafts.{session_with}
@@ -17,7 +18,7 @@ use Rattle.session_text.specs.Refusals.{next_line, lines_in}
 use Rattle.session_text.specs.Reading.{PlainReading, first_reading, reading_after_item}
 use Rattle.session_text.specs.Reading.{reading_after_line, session_at_end}
 use Rattle.session_text.specs.Fronts.{PlainFront, front_at, then_front, front_from, front_in}
-use Rattle.session_text.specs.Grammar.{Item, Written, item_words, session_items, session_meaning, ports_of, IsGood}
+use Rattle.session_text.specs.Grammar.{WrittenItem, Written, item_words, session_items, session_meaning, ports_of, IsWellWritten}
 use Rattle.session_text.proofs.Judged.{word_found}
 use Rattle.session_text.proofs.Runs.{Run, session_read, item_with, ended_run}
 use Rattle.session_text.proofs.Heads.{run_written, written_taken, ports_few}
@@ -68,7 +69,7 @@ front_taken r n lines session ended h =
 -- ---- read
 
 record FrontRead (r : PlainReading) (lines : List Line) (front : PlainFront) : Type 0 where
-  items : List Item
+  items : List WrittenItem
   words : filter says lines ≡ map item_words items ++ filter says front.rest
   run : Run r.stand items
   session : front.session ≡ session_read r.stand r.draft items
@@ -169,7 +170,7 @@ front_read ((word ∷ arguments) ∷ lines) r n front h =
 
 -- ---- .. and back
 
-ended_place : (at : Place) → is_ended at ≡ true → at ≡ place.Ended
+ended_place : (at : ItemPlace) → is_ended at ≡ true → at ≡ place.Ended
 ended_place place.Start h = cc
 ended_place place.Head h = cc
 ended_place place.Before h = cc
@@ -179,13 +180,13 @@ ended_place place.Clock h = cc
 ended_place place.Caller h = cc
 ended_place place.Ended h = refl
 
-record FrontBack (r : PlainReading) (n : ℕ) (lines : List Line) (items : List Item) (rest : List Line) : Type 0 where
+record FrontBack (r : PlainReading) (n : ℕ) (lines : List Line) (items : List WrittenItem) (rest : List Line) : Type 0 where
   front : PlainFront
   is : front_from r n lines ≡ Ok front
   session : front.session ≡ session_read r.stand r.draft items
   words : filter says front.rest ≡ rest
 
-after_back : (r : PlainReading) (n : ℕ) (lines rest : List Line) (items : List Item)
+after_back : (r : PlainReading) (n : ℕ) (lines rest : List Line) (items : List WrittenItem)
     → is_ended r.stand.place ≡ true
     → filter says lines ≡ map item_words items ++ rest
     → Run r.stand items
@@ -195,18 +196,18 @@ after_back r n lines rest items ended words run =
       front = front_at r n lines;
       is = front_ended r n lines ended;
       session = sym (ap (session_read r.stand r.draft) none);
-      words = words ∙ ap (λ (is : List Item). map item_words is ++ rest) none;
+      words = words ∙ ap (λ (is : List WrittenItem). map item_words is ++ rest) none;
     }
 
 abbrev GoesBack : PlainReading → ℕ → List Line → Type 0
 GoesBack r n lines =
-    (items : List Item) (rest : List Line)
+    (items : List WrittenItem) (rest : List Line)
     → filter says lines ≡ map item_words items ++ rest
     → Run r.stand items
     → FrontBack r n lines items rest
 
 -- a line that leads on
-led : (r next : PlainReading) (n m : ℕ) (lines more : List Line) (items others : List Item) (rest : List Line)
+led : (r next : PlainReading) (n m : ℕ) (lines more : List Line) (items others : List WrittenItem) (rest : List Line)
     → front_from r n lines ≡ front_from next m more
     → session_read next.stand next.draft others ≡ session_read r.stand r.draft items
     → FrontBack next m more others rest
@@ -219,7 +220,7 @@ item_back : (r : PlainReading) (n : ℕ) (word : List ℕ) (arguments : Line) (l
     → is_ended r.stand.place ≡ false
     → first_is 35 word ≡ false
     → ((next : PlainReading) → GoesBack next (next_line n) lines)
-    → (items : List Item) (rest : List Line)
+    → (items : List WrittenItem) (rest : List Line)
     → (word ∷ arguments) ∷ filter says lines ≡ map item_words items ++ rest
     → Run r.stand items
     → FrontBack r n ((word ∷ arguments) ∷ lines) items rest
@@ -251,7 +252,7 @@ word_back : (r : PlainReading) (n : ℕ) (word : List ℕ) (arguments : Line) (l
     → is_ended r.stand.place ≡ false
     → first_is 35 word ≡ comment
     → ((next : PlainReading) → GoesBack next (next_line n) lines)
-    → (items : List Item) (rest : List Line)
+    → (items : List WrittenItem) (rest : List Line)
     → cond (not comment) ((word ∷ arguments) ∷ filter says lines) (filter says lines) ≡ map item_words items ++ rest
     → Run r.stand items
     → FrontBack r n ((word ∷ arguments) ∷ lines) items rest
@@ -266,7 +267,7 @@ word_back r n word arguments lines true open_ comment later items rest words run
 word_back r n word arguments lines false open_ comment later items rest words run =
     item_back r n word arguments lines open_ comment later items rest words run
 
-no_line : (r : PlainReading) (items : List Item) (rest : List Line)
+no_line : (r : PlainReading) (items : List WrittenItem) (rest : List Line)
     → is_ended r.stand.place ≡ false
     → [] ≡ map item_words items ++ rest
     → Run r.stand items
@@ -299,7 +300,7 @@ front_back ((word ∷ arguments) ∷ lines) r n =
 pub record FrontSpelled (text : List ℕ) (front : PlainFront) : Type 0 where
   pub written : Written
   pub words : filter says (lines_in text) ≡ map item_words (session_items written) ++ filter says front.rest
-  pub good : IsGood written
+  pub good : IsWellWritten written
   pub means : front.session ≡ session_meaning written
 
 pub front_spelled : (text : List ℕ) (front : PlainFront) → front_in text ≡ Ok front → FrontSpelled text front
@@ -308,7 +309,7 @@ front_spelled text front h =
     let is = run_written read.items read.run in
     let taken = written_taken is.written is.good in record {
       written = is.written;
-      words = read.words ∙ ap (λ (items : List Item). map item_words items ++ filter says front.rest) is.items_are;
+      words = read.words ∙ ap (λ (items : List WrittenItem). map item_words items ++ filter says front.rest) is.items_are;
       good = is.good;
       means = read.session ∙ ap (session_read first_reading.stand first_reading.draft) is.items_are ∙ taken.meant;
     }
@@ -320,7 +321,7 @@ pub record SpelledFront (text : List ℕ) (written : Written) (rest : List Line)
   pub words : filter says front.rest ≡ rest
 
 pub spelled_front : (text : List ℕ) (written : Written) (rest : List Line)
-    → IsGood written
+    → IsWellWritten written
     → filter says (lines_in text) ≡ map item_words (session_items written) ++ rest
     → SpelledFront text written rest
 spelled_front text written rest good words =
@@ -332,5 +333,5 @@ spelled_front text written rest good words =
       words = back.words;
     }
 
-pub good_ports : (written : Written) → IsGood written → ports_of written ≤ 8
+pub good_ports : (written : Written) → IsWellWritten written → ports_of written ≤ MOST_PORTS
 good_ports written good = ports_few written good

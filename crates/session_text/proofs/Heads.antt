@@ -6,22 +6,23 @@ use Rattle.std.specs.Prelude.{flat_map, sum_by, map, fold, slice_index}
 use Rattle.std.specs.List.{AllByRecursion}
 use Rattle.std.proofs.lemmas.Bool.{eqb-true}
 use Rattle.std.proofs.lemmas.List.Sums.{sum_by-cons}
+use Rattle.tty_base.specs.Sizes.{DEFAULT_FLIP, MOST_ARRIVALS, MOST_PORTS, MOST_TICKS}
 use Rattle.text_lines.specs.Values.{is_number, number_of, word_at, number_at}
 use Rattle.session_text.specs.declared.faults.Reason.TheVariants as reason
-use Rattle.session_text.specs.declared.kinds.Kind.TheVariants as kind
+use Rattle.session_text.specs.declared.kinds.ArgumentKind.TheVariants as kind
 use Rattle.session_text.specs.declared.verbs.Verb.{Verb}
 use Rattle.session_text.specs.declared.verbs.Verb.TheVariants.{Session, Ports, Flip, Phase, Line}
 use Rattle.session_text.specs.declared.verbs.Verb.TheVariants.{Clock, Caller, Tick, End, Step, Call}
-use Rattle.session_text.specs.declared.stands.Place.{Place}
-use Rattle.session_text.specs.declared.stands.Place.TheVariants as place
+use Rattle.session_text.specs.declared.stands.ItemPlace.{ItemPlace}
+use Rattle.session_text.specs.declared.stands.ItemPlace.TheVariants as place
 use Rattle.session_text.specs.Verbs.{verb_of, verb_text}
 use Rattle.session_text.specs.Kinds.{kind_at, fault_of, limit_fault}
 use Rattle.session_text.specs.Stands.{PlainStand, first_stand, stand_after, is_good, may_stand, is_ended}
 use Rattle.session_text.specs.Meaning.{empty_phase}
 use Rattle.session_text.specs.Drafts.{first_draft}
-use Rattle.session_text.specs.Grammar.{Item, Block, Written, flip_item, phase_item, phase_items, end_item}
+use Rattle.session_text.specs.Grammar.{WrittenItem, WrittenBlock, Written, flip_item, phase_item, phase_items, end_item}
 use Rattle.session_text.specs.Grammar.{session_items, with_flip, phase_meaning, session_meaning, ports_of}
-use Rattle.session_text.specs.Grammar.{opens_block, IsGood, IsGoodFlip, IsGoodBlock, IsGoodPhase, Once}
+use Rattle.session_text.specs.Grammar.{opens_block, IsWellWritten, IsGoodFlip, IsGoodBlock, IsGoodPhase, Once}
 use Rattle.session_text.specs.Grammar.{port_in, port_of, steps_count, arrivals_by, ticks_by}
 use Rattle.session_text.specs.Grammar.{block_characters, characters_count, block_ticks, ticks_count}
 use Rattle.session_text.proofs.Bounds.{none_on}
@@ -35,7 +36,7 @@ abbrev pub first_port : List (List ℕ) → ℕ
 first_port arguments = number_at arguments 0
 
 -- the flips and phases fit what the reader has seen of the head
-pub record Head (s : PlainStand) (flips : List (List (List ℕ))) (phases : List (List Block)) : Type 0 where
+pub record Head (s : PlainStand) (flips : List (List (List ℕ))) (phases : List (List WrittenBlock)) : Type 0 where
   pub flips_good : AllByRecursion (IsGoodFlip s.version s.ports) flips
   pub flips_once : Once s.flips (map first_port flips)
   pub phases_good : AllByRecursion (IsGoodPhase s.ports) phases
@@ -44,10 +45,10 @@ pub record Head (s : PlainStand) (flips : List (List (List ℕ))) (phases : List
   pub few_characters : (p : ℕ) → sum_by (characters_count p) phases ≤ slice_index s.characters_left p
   pub few_ticks : (p : ℕ) → sum_by (ticks_count p) phases ≤ slice_index s.ticks_left p
 
-abbrev pub head_items : List (List (List ℕ)) → List (List Block) → List Item
+abbrev pub head_items : List (List (List ℕ)) → List (List WrittenBlock) → List WrittenItem
 head_items flips phases = map flip_item flips ++ (flat_map phase_items phases ++ end_item ∷ [])
 
-head_of_rest : (s : PlainStand) (phases : List (List Block)) → Rest s [] [] phases → Head s [] phases
+head_of_rest : (s : PlainStand) (phases : List (List WrittenBlock)) → Rest s [] [] phases → Head s [] phases
 head_of_rest s phases r = record {
   flips_good = tt;
   flips_once = tt;
@@ -58,7 +59,7 @@ head_of_rest s phases r = record {
   few_ticks = λ p. let few = r.few_ticks p in omega (arith, few);
 }
 
-rest_of_head : (s : PlainStand) (phases : List (List Block)) → Head s [] phases → Rest s [] [] phases
+rest_of_head : (s : PlainStand) (phases : List (List WrittenBlock)) → Head s [] phases → Rest s [] [] phases
 rest_of_head s phases h = record {
   own_good = tt;
   blocks_good = tt;
@@ -75,17 +76,17 @@ rest_of_head s phases h = record {
 
 -- ---- what is taken is such a head
 
-pub record HeadFollows (s : PlainStand) (items : List Item) : Type 0 where
+pub record HeadFollows (s : PlainStand) (items : List WrittenItem) : Type 0 where
   pub flips : List (List (List ℕ))
-  pub phases : List (List Block)
+  pub phases : List (List WrittenBlock)
   pub head : Head s flips phases
   pub items_are : items ≡ head_items flips phases
 
-phases_head : (s : PlainStand) (items : List Item) → PhasesFollow s items → HeadFollows s items
+phases_head : (s : PlainStand) (items : List WrittenItem) → PhasesFollow s items → HeadFollows s items
 phases_head s items f =
     record { flips = []; phases = f.phases; head = head_of_rest s f.phases f.rest; items_are = f.items_are }
 
-flip_head : (s : PlainStand) (arguments : List (List ℕ)) (items : List Item)
+flip_head : (s : PlainStand) (arguments : List (List ℕ)) (items : List WrittenItem)
     → verb_of s.version (verb_text Flip) ≡ Some Flip
     → Fits s Flip arguments
     → HeadFollows (stand_after s Flip arguments) items
@@ -103,16 +104,16 @@ flip_head s arguments items known fits f = record {
     few_characters = f.head.few_characters;
     few_ticks = f.head.few_ticks;
   };
-  items_are = ap (λ (xs : List Item). flip_item arguments ∷ xs) f.items_are;
+  items_are = ap (λ (xs : List WrittenItem). flip_item arguments ∷ xs) f.items_are;
 }
 
 stands_before : (s : PlainStand) (verb : Verb) (arguments : List (List ℕ))
     → s.place ≡ place.Before
     → Fits s verb arguments
     → may_stand verb place.Before ≡ true
-stands_before s verb arguments at fits = subst (λ (p : Place). may_stand verb p ≡ true) at fits.at
+stands_before s verb arguments at fits = subst (λ (p : ItemPlace). may_stand verb p ≡ true) at fits.at
 
-verb_head : (verb : Verb) (arguments : List (List ℕ)) (items : List Item) (s : PlainStand)
+verb_head : (verb : Verb) (arguments : List (List ℕ)) (items : List WrittenItem) (s : PlainStand)
     → s.place ≡ place.Before
     → verb_of s.version (verb_text verb) ≡ Some verb
     → Fits s verb arguments
@@ -137,13 +138,13 @@ verb_head Tick arguments items s at known fits stands run later = cc
 verb_head (Step verb) arguments items s at known fits stands run later = cc
 verb_head (Call verb) arguments items s at known fits stands run later = cc
 
-past_before : (at : Place) → at ≡ place.Before → is_start at ≡ false
-past_before at e = subst (λ (p : Place). is_start p ≡ false) (sym e) refl
+past_before : (at : ItemPlace) → at ≡ place.Before → is_start at ≡ false
+past_before at e = subst (λ (p : ItemPlace). is_start p ≡ false) (sym e) refl
 
 not_ended : (s : PlainStand) → s.place ≡ place.Before → Run s [] → ⊥
-not_ended s at run = let ended = subst (λ (p : Place). is_ended p ≡ true) at run in cc
+not_ended s at run = let ended = subst (λ (p : ItemPlace). is_ended p ≡ true) at run in cc
 
-pub head_follows : (items : List Item) (s : PlainStand) → s.place ≡ place.Before → Run s items → HeadFollows s items
+pub head_follows : (items : List WrittenItem) (s : PlainStand) → s.place ≡ place.Before → Run s items → HeadFollows s items
 head_follows [] s at run = absurd (not_ended s at run)
 head_follows (item ∷ items) s at run =
     let fits = good_fits s (verb_text item.verb) item.arguments item.verb (past_before s.place at) run.0 in
@@ -152,7 +153,7 @@ head_follows (item ∷ items) s at run =
 
 -- ---- such a head is taken
 
-pub record HeadTaken (s : PlainStand) (flips : List (List (List ℕ))) (phases : List (List Block)) : Type 0 where
+pub record HeadTaken (s : PlainStand) (flips : List (List (List ℕ))) (phases : List (List WrittenBlock)) : Type 0 where
   pub run : Run s (head_items flips phases)
   pub meant : (capacities : List ℕ)
       → session_read s (record { flips = capacities; phases = []; open_phase = None }) (head_items flips phases)
@@ -170,9 +171,9 @@ stand_at_before : (s : PlainStand) (verb : Verb)
     → s.place ≡ place.Before
     → may_stand verb place.Before ≡ true
     → may_stand verb s.place ≡ true
-stand_at_before s verb at h = subst (λ (p : Place). may_stand verb p ≡ true) (sym at) h
+stand_at_before s verb at h = subst (λ (p : ItemPlace). may_stand verb p ≡ true) (sym at) h
 
-pub head_taken : (flips : List (List (List ℕ))) (phases : List (List Block)) (s : PlainStand)
+pub head_taken : (flips : List (List (List ℕ))) (phases : List (List WrittenBlock)) (s : PlainStand)
     → s.place ≡ place.Before
     → Head s flips phases
     → HeadTaken s flips phases
@@ -270,7 +271,7 @@ other_port : (q p n : ℕ) (b : Bool) → (q == p) ≡ b → q < p → cond b n 
 other_port q p n true e lt = absurd (let same = eqb-true q p e in omega (arith, same, lt))
 other_port q p n false e lt = refl
 
-no_characters : (ports p : ℕ) (blocks : List Block)
+no_characters : (ports p : ℕ) (blocks : List WrittenBlock)
     → ports ≤ p
     → AllByRecursion (IsGoodBlock ports) blocks
     → characters_count p blocks ≡ 0
@@ -283,7 +284,7 @@ no_characters ports p (block ∷ blocks) h good =
     let rest = no_characters ports p blocks h good.1 in
     omega (arith, cons, none, rest)
 
-no_ticks : (ports p : ℕ) (blocks : List Block)
+no_ticks : (ports p : ℕ) (blocks : List WrittenBlock)
     → ports ≤ p
     → AllByRecursion (IsGoodBlock ports) blocks
     → ticks_count p blocks ≡ 0
@@ -296,7 +297,7 @@ no_ticks ports p (block ∷ blocks) h good =
     let rest = no_ticks ports p blocks h good.1 in
     omega (arith, cons, none, rest)
 
-no_characters_ever : (ports p : ℕ) (phases : List (List Block))
+no_characters_ever : (ports p : ℕ) (phases : List (List WrittenBlock))
     → ports ≤ p
     → AllByRecursion (IsGoodPhase ports) phases
     → sum_by (characters_count p) phases ≡ 0
@@ -307,7 +308,7 @@ no_characters_ever ports p (blocks ∷ phases) h good =
     let rest = no_characters_ever ports p phases h good.1 in
     omega (arith, cons, here, rest)
 
-no_ticks_ever : (ports p : ℕ) (phases : List (List Block))
+no_ticks_ever : (ports p : ℕ) (phases : List (List WrittenBlock))
     → ports ≤ p
     → AllByRecursion (IsGoodPhase ports) phases
     → sum_by (ticks_count p) phases ≡ 0
@@ -333,15 +334,15 @@ one_word (word ∷ other ∷ words) h =
     absurd (let one = eqb-true (length (word ∷ other ∷ words)) 1 h in omega (arith, one))
 
 -- a good written session for items
-pub record IsWritten (items : List Item) : Type 0 where
+pub record IsWritten (items : List WrittenItem) : Type 0 where
   pub written : Written
-  pub good : IsGood written
+  pub good : IsWellWritten written
   pub items_are : items ≡ session_items written
 
 written_from : (version ports : List ℕ)
     → is_good 0 Session (version ∷ []) ≡ true
     → is_good 0 Ports (ports ∷ []) ≡ true
-    → (items : List Item)
+    → (items : List WrittenItem)
     → HeadFollows (ports_stand (version ∷ []) (ports ∷ [])) items
     → IsWritten (item_with Session (version ∷ []) ∷ item_with Ports (ports ∷ []) ∷ items)
 written_from version ports good_version good_ports items f = record {
@@ -355,16 +356,19 @@ written_from version ports good_version good_ports items f = record {
     few_phases = f.head.few_phases;
     few_steps = f.head.few_steps;
     few_characters = λ p.
-        let few = f.head.few_characters p in let most = left_at_most 8 262144 p in omega (arith, few, most);
-    few_ticks = λ p. let few = f.head.few_ticks p in let most = left_at_most 8 65536 p in omega (arith, few, most);
+        let few = f.head.few_characters p in
+        let most = left_at_most MOST_PORTS MOST_ARRIVALS p in omega (arith, few, most);
+    few_ticks = λ p.
+        let few = f.head.few_ticks p in
+        let most = left_at_most MOST_PORTS MOST_TICKS p in omega (arith, few, most);
   };
-  items_are = ap (λ (xs : List Item). item_with Session (version ∷ []) ∷ item_with Ports (ports ∷ []) ∷ xs) f.items_are;
+  items_are = ap (λ (xs : List WrittenItem). item_with Session (version ∷ []) ∷ item_with Ports (ports ∷ []) ∷ xs) f.items_are;
 }
 
 -- after the header nothing but `ports` may stand
 ports_written : (version : List ℕ)
     → is_good 0 Session (version ∷ []) ≡ true
-    → (verb : Verb) (arguments : List (List ℕ)) (items : List Item)
+    → (verb : Verb) (arguments : List (List ℕ)) (items : List WrittenItem)
     → Fits (header_stand (version ∷ [])) verb arguments
     → Run (stand_after (header_stand (version ∷ [])) verb arguments) items
     → IsWritten (item_with Session (version ∷ []) ∷ item_with verb arguments ∷ items)
@@ -389,7 +393,7 @@ ports_written version good End arguments items fits run = absurd (let none = fit
 ports_written version good (Step verb) arguments items fits run = absurd (let none = fits.at in cc)
 ports_written version good (Call verb) arguments items fits run = absurd (let none = fits.at in cc)
 
-head_written : (version : List ℕ) (items : List Item)
+head_written : (version : List ℕ) (items : List WrittenItem)
     → is_good 0 Session (version ∷ []) ≡ true
     → Run (header_stand (version ∷ [])) items
     → IsWritten (item_with Session (version ∷ []) ∷ items)
@@ -399,7 +403,7 @@ head_written version (item ∷ items) good run =
     ports_written version good item.verb item.arguments items fits.1 run.1
 
 -- items that are taken from the first stand on are those of a good session
-pub run_written : (items : List Item) → Run first_stand items → IsWritten items
+pub run_written : (items : List WrittenItem) → Run first_stand items → IsWritten items
 run_written [] run = cc
 run_written (item ∷ items) run =
     let found = header_found first_stand (verb_text item.verb) item.arguments item.verb refl run.0 in
@@ -409,33 +413,33 @@ run_written (item ∷ items) run =
     let good : is_good 0 Session (one.0 ∷ []) ≡ true =
     subst (λ (words : List (List ℕ)). is_good 0 Session words ≡ true) one.1 found.0 in
     let onwards : Run (header_stand (one.0 ∷ [])) items =
-    subst (λ (i : Item). Run (stand_after first_stand i.verb i.arguments) items) same run.1 in
-    subst (λ (i : Item). IsWritten (i ∷ items)) (sym same) (head_written one.0 items good onwards)
+    subst (λ (i : WrittenItem). Run (stand_after first_stand i.verb i.arguments) items) same run.1 in
+    subst (λ (i : WrittenItem). IsWritten (i ∷ items)) (sym same) (head_written one.0 items good onwards)
 
 -- .. and those are taken, and read as what they mean
-pub ports_few : (w : Written) → IsGood w → ports_of w ≤ 8
-ports_few w good = good_number 0 Ports (w.ports ∷ []) 0 1 8 good.ports refl
+pub ports_few : (w : Written) → IsWellWritten w → ports_of w ≤ MOST_PORTS
+ports_few w good = good_number 0 Ports (w.ports ∷ []) 0 1 MOST_PORTS good.ports refl
 
 left_for : (left : List ℕ) (most n p : ℕ)
-    → ((p < 8) ⊎ (8 ≤ p))
-    → ((p < 8) → slice_index left p ≡ most)
+    → ((p < MOST_PORTS) ⊎ (MOST_PORTS ≤ p))
+    → ((p < MOST_PORTS) → slice_index left p ≡ most)
     → n ≤ most
-    → ((8 ≤ p) → n ≡ 0)
+    → ((MOST_PORTS ≤ p) → n ≡ 0)
     → n ≤ slice_index left p
 left_for left most n p (inl lt) all few none = let e = all lt in omega (arith, e, few)
 left_for left most n p (inr ge) all few none = let e = none ge in omega (arith, e)
 
-which_side : (p : ℕ) → (p < 8) ⊎ (8 ≤ p)
-which_side p = elim (nat_lt p 8) as (λ b. nat_lt p 8 ≡ b → (p < 8) ⊎ (8 ≤ p)) [
-  | true ↦ λ e. inl (ltb-true p 8 e)
-  | false ↦ λ e. inr (ltb-false p 8 e)
+which_side : (p : ℕ) → (p < MOST_PORTS) ⊎ (MOST_PORTS ≤ p)
+which_side p = elim (nat_lt p MOST_PORTS) as (λ b. nat_lt p MOST_PORTS ≡ b → (p < MOST_PORTS) ⊎ (MOST_PORTS ≤ p)) [
+  | true ↦ λ e. inl (ltb-true p MOST_PORTS e)
+  | false ↦ λ e. inr (ltb-false p MOST_PORTS e)
 ] refl
 
 pub record WrittenTaken (w : Written) : Type 0 where
   pub run : Run first_stand (session_items w)
   pub meant : session_read first_stand first_draft (session_items w) ≡ session_meaning w
 
-pub written_taken : (w : Written) → IsGood w → WrittenTaken w
+pub written_taken : (w : Written) → IsWellWritten w → WrittenTaken w
 written_taken w good =
     let s = ports_stand (w.version ∷ []) (w.ports ∷ []) in
     let few = ports_few w good in
@@ -445,11 +449,14 @@ written_taken w good =
       phases_good = good.phases;
       few_phases = good.few_phases;
       few_steps = good.few_steps;
-      few_characters = λ p. left_for (replicate 8 262144) 262144 (sum_by (characters_count p) w.phases) p (which_side p)
-          (left_all 8 262144 p) (good.few_characters p)
+      few_characters = λ p.
+          left_for (replicate MOST_PORTS MOST_ARRIVALS) MOST_ARRIVALS (sum_by (characters_count p) w.phases) p
+          (which_side p)
+          (left_all MOST_PORTS MOST_ARRIVALS p) (good.few_characters p)
           (λ ge. no_characters_ever (ports_of w) p w.phases (omega (arith, ge, few)) good.phases);
-      few_ticks = λ p. left_for (replicate 8 65536) 65536 (sum_by (ticks_count p) w.phases) p (which_side p)
-          (left_all 8 65536 p) (good.few_ticks p)
+      few_ticks = λ p.
+          left_for (replicate MOST_PORTS MOST_TICKS) MOST_TICKS (sum_by (ticks_count p) w.phases) p (which_side p)
+          (left_all MOST_PORTS MOST_TICKS p) (good.few_ticks p)
           (λ ge. no_ticks_ever (ports_of w) p w.phases (omega (arith, ge, few)) good.phases);
     } in
     let rest = head_taken w.flips w.phases s refl head in record {
@@ -461,5 +468,5 @@ written_taken w good =
           rest.run,
         ),
       );
-      meant = rest.meant (replicate (ports_of w) 4096);
+      meant = rest.meant (replicate (ports_of w) DEFAULT_FLIP);
     }

@@ -15,8 +15,8 @@ use Rattle.session_text.specs.declared.verbs.LineVerb.{LineVerb}
 use Rattle.session_text.specs.declared.verbs.LineVerb.TheVariants.{Rx, Rxp, Rxf, Break, Mask, Unmask, Idle, Trigger}
 use Rattle.session_text.specs.declared.verbs.CallVerb.{CallVerb}
 use Rattle.session_text.specs.declared.verbs.CallVerb.TheVariants as call
-use Rattle.session_text.specs.declared.stands.Place.{Place}
-use Rattle.session_text.specs.declared.stands.Place.TheVariants as place
+use Rattle.session_text.specs.declared.stands.ItemPlace.{ItemPlace}
+use Rattle.session_text.specs.declared.stands.ItemPlace.TheVariants as place
 use Rattle.session_text.specs.Verbs.{verb_of, verb_text, block_verbs, line_verbs, call_verbs}
 use Rattle.session_text.specs.Verbs.{line_text, call_text, block_verb_of, line_verb_of, call_verb_of}
 use Rattle.session_text.specs.Kinds.{may_have, fault_from}
@@ -130,11 +130,11 @@ flip_version version h = (flip_found (version == 2) Flip h).0
 
 -- ---- judged good
 
-abbrev pub is_start : Place → Bool
+abbrev pub is_start : ItemPlace → Bool
 is_start place.Start = true
 is_start other = false
 
-pub judged_other : (s : PlainStand) (at : Place) (word : List ℕ) (arguments : List (List ℕ))
+pub judged_other : (s : PlainStand) (at : ItemPlace) (word : List ℕ) (arguments : List (List ℕ))
     → is_start at ≡ false
     → verdict_at s at word arguments ≡ verb_verdict s (verb_of s.version word) arguments
 judged_other s place.Start word arguments h = cc
@@ -201,7 +201,7 @@ start_found s word arguments found h =
     let both = and_parts (bytes_eq word (codes "tty-session")) (is_good s.ports Session arguments) parts.0 in
     ((bytes_eq-Decides word (codes "tty-session")).0 both.0, both.1, parts.1)
 
-word_found_at : (s : PlainStand) (at : Place) (word : List ℕ) (arguments : List (List ℕ)) (found : Verb) (start : Bool)
+word_found_at : (s : PlainStand) (at : ItemPlace) (word : List ℕ) (arguments : List (List ℕ)) (found : Verb) (start : Bool)
     → is_start at ≡ start
     → verdict_at s at word arguments ≡ Ok found
     → word ≡ verb_text found
@@ -234,7 +234,7 @@ pub header_found : (s : PlainStand) (word : List ℕ) (arguments : List (List �
     → (is_good s.ports Session arguments ≡ true) × (Session ≡ found)
 header_found s word arguments found at h =
     let parts =
-    start_found s word arguments found (subst (λ (p : Place). verdict_at s p word arguments ≡ Ok found) at h) in
+    start_found s word arguments found (subst (λ (p : ItemPlace). verdict_at s p word arguments ≡ Ok found) at h) in
     (parts.1, parts.2)
 
 pub header_good : (s : PlainStand) (arguments : List (List ℕ))
@@ -242,12 +242,12 @@ pub header_good : (s : PlainStand) (arguments : List (List ℕ))
     → is_good s.ports Session arguments ≡ true
     → verdict_on s (codes "tty-session") arguments ≡ Ok Session
 header_good s arguments at good =
-    subst (λ (p : Place). verdict_at s p (codes "tty-session") arguments ≡ Ok Session) (sym at)
+    subst (λ (p : ItemPlace). verdict_at s p (codes "tty-session") arguments ≡ Ok Session) (sym at)
     (let e : (bytes_eq (codes "tty-session") (codes "tty-session") && is_good s.ports Session arguments)
     ≡ true = good in
     ap (λ (b : Bool). let r : Result Verb Reason = cond b (Ok Session) (Err reason.Header) in r) e)
 
-pub past_in_phase : (at : Place) → in_phase at ≡ true → is_start at ≡ false
+pub past_in_phase : (at : ItemPlace) → in_phase at ≡ true → is_start at ≡ false
 past_in_phase place.Start h = cc
 past_in_phase place.Head h = refl
 past_in_phase place.Before h = refl

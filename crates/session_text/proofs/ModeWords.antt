@@ -10,7 +10,7 @@ use Rattle.tty_modes.specs.Reading.{word_of as mode_of}
 use Rattle.session_text.specs.declared.verbs.Verb.TheVariants.{Call}
 use Rattle.session_text.specs.declared.verbs.CallVerb.TheVariants.{SetModes}
 use Rattle.session_text.specs.declared.faults.Reason.{Reason}
-use Rattle.session_text.specs.declared.kinds.Kind.TheVariants as kind
+use Rattle.session_text.specs.declared.kinds.ArgumentKind.TheVariants as kind
 use Rattle.session_text.specs.Kinds.{modes_in, kind_at, fault_of, fault_from, word_fault}
 
 mode_kind : (place : ℕ) → 2 ≤ place → kind_at (Call SetModes) place ≡ kind.Mode

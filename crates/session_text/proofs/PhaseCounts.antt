@@ -7,8 +7,8 @@ use Rattle.tty_calls.specs.Limits.{IsWithinLimits}
 use Rattle.tty_calls.specs.Sessions.{PlainPhase, PlainSession}
 use Rattle.session_text.specs.declared.faults.Reason.{Reason}
 use Rattle.session_text.specs.declared.faults.BadLine.{BadLine}
-use Rattle.session_text.specs.declared.stands.Place.{Place}
-use Rattle.session_text.specs.declared.stands.Place.TheVariants as place
+use Rattle.session_text.specs.declared.stands.ItemPlace.{ItemPlace}
+use Rattle.session_text.specs.declared.stands.ItemPlace.TheVariants as place
 use Rattle.session_text.specs.declared.verbs.Verb.{Verb}
 use Rattle.session_text.specs.declared.verbs.Verb.TheVariants.{Session, Ports, Flip, Phase, Line}
 use Rattle.session_text.specs.declared.verbs.Verb.TheVariants.{Clock, Caller, Tick, End, Step, Call}
@@ -26,7 +26,7 @@ use Rattle.session_text.proofs.Within.{written_within}
 
 -- ---- places
 
-head_no_phase : (at : Place) → is_head at ≡ true → in_phase at ≡ false
+head_no_phase : (at : ItemPlace) → is_head at ≡ true → in_phase at ≡ false
 head_no_phase place.Head e = refl
 head_no_phase place.Start e = absurd (cc)
 head_no_phase place.Ended e = absurd (cc)
@@ -36,7 +36,7 @@ head_no_phase place.Line e = absurd (cc)
 head_no_phase place.Clock e = absurd (cc)
 head_no_phase place.Caller e = absurd (cc)
 
-past_start : (at : Place) → is_start at ≡ false → stands_at_start at ≡ false
+past_start : (at : ItemPlace) → is_start at ≡ false → stands_at_start at ≡ false
 past_start place.Start h = absurd (cc)
 past_start place.Head h = refl
 past_start place.Ended h = refl
@@ -46,7 +46,7 @@ past_start place.Line h = refl
 past_start place.Clock h = refl
 past_start place.Caller h = refl
 
-start_is : (at : Place) → stands_at_start at ≡ true → at ≡ place.Start
+start_is : (at : ItemPlace) → stands_at_start at ≡ true → at ≡ place.Start
 start_is place.Start h = refl
 start_is place.Head h = absurd (cc)
 start_is place.Ended h = absurd (cc)
@@ -56,7 +56,7 @@ start_is place.Line h = absurd (cc)
 start_is place.Clock h = absurd (cc)
 start_is place.Caller h = absurd (cc)
 
-pub ended_no_phase : (at : Place) → is_ended at ≡ true → in_phase at ≡ false
+pub ended_no_phase : (at : ItemPlace) → is_ended at ≡ true → in_phase at ≡ false
 ended_no_phase place.Ended h = refl
 ended_no_phase place.Start h = absurd (cc)
 ended_no_phase place.Head h = absurd (cc)

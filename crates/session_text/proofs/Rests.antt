@@ -6,16 +6,17 @@ use Rattle.std.proofs.lemmas.Bool.{leb-false}
 use Rattle.std.specs.Prelude.{slice_index, flat_map, sum_by}
 use Rattle.std.specs.List.{AllByRecursion}
 use Rattle.std.proofs.lemmas.List.Sums.{sum_by-cons}
+use Rattle.tty_base.specs.Sizes.{MOST_CALLERS}
 use Rattle.text_lines.specs.Values.{number_at}
 use Rattle.session_text.specs.declared.verbs.Verb.{Verb}
 use Rattle.session_text.specs.declared.verbs.Verb.TheVariants.{Session, Phase, Line, Clock, Caller, Tick, Step, Call}
 use Rattle.session_text.specs.declared.verbs.LineVerb.{LineVerb}
 use Rattle.session_text.specs.declared.verbs.CallVerb.{CallVerb}
-use Rattle.session_text.specs.declared.stands.Place.{Place}
-use Rattle.session_text.specs.declared.stands.Place.TheVariants as place
+use Rattle.session_text.specs.declared.stands.ItemPlace.{ItemPlace}
+use Rattle.session_text.specs.declared.stands.ItemPlace.TheVariants as place
 use Rattle.session_text.specs.Stands.{PlainStand, callers_on, arrivals, has_many, is_good, may_stand, has_stood}
 use Rattle.session_text.specs.Stands.{is_over, in_phase, is_before, is_line, is_clock, is_caller, stand_after}
-use Rattle.session_text.specs.Grammar.{Item, Block, block_items, phase_items, end_item, is_inside}
+use Rattle.session_text.specs.Grammar.{WrittenItem, WrittenBlock, block_items, phase_items, end_item, is_inside}
 use Rattle.session_text.specs.Grammar.{IsGoodItem, IsGoodBlock, IsGoodPhase, Once, CallersFit, line_ports}
 use Rattle.session_text.specs.Grammar.{clock_ports, caller_keys, port_of, steps_count, arrivals_by, ticks_by}
 use Rattle.session_text.specs.Grammar.{block_characters, characters_count, block_ticks, ticks_count}
@@ -29,20 +30,17 @@ pub record Fits (s : PlainStand) (verb : Verb) (arguments : List (List ℕ)) : T
   pub once : has_stood s verb arguments ≡ false
   pub within : is_over s verb arguments ≡ false
 
-abbrev pub FitsItem : PlainStand → Item → Type 0
-FitsItem s item = Fits s item.verb item.arguments
-
 -- the verb with which the open block began; none may stand inside a `tty-session`
-abbrev pub opening_at : Place → Verb
+abbrev pub opening_at : ItemPlace → Verb
 opening_at place.Line = Line
 opening_at place.Clock = Clock
 opening_at place.Caller = Caller
 opening_at other = Session
 
-abbrev pub after_item : PlainStand → Item → PlainStand
+abbrev pub after_item : PlainStand → WrittenItem → PlainStand
 after_item s item = stand_after s item.verb item.arguments
 
-pub record Rest (s : PlainStand) (own : List Item) (blocks : List Block) (phases : List (List Block)) : Type 0 where
+pub record Rest (s : PlainStand) (own : List WrittenItem) (blocks : List WrittenBlock) (phases : List (List WrittenBlock)) : Type 0 where
   pub own_good : AllByRecursion (IsGoodItem s.ports (opening_at s.place)) own
   pub blocks_good : AllByRecursion (IsGoodBlock s.ports) blocks
   pub lines_once : Once s.lines (line_ports blocks)
@@ -58,12 +56,12 @@ pub record Rest (s : PlainStand) (own : List Item) (blocks : List Block) (phases
       → on_port s.port p (sum_by ticks_by own) + (ticks_count p blocks + sum_by (ticks_count p) phases)
       ≤ slice_index s.ticks_left p
 
-abbrev pub rest_items : List Item → List Block → List (List Block) → List Item
+abbrev pub rest_items : List WrittenItem → List WrittenBlock → List (List WrittenBlock) → List WrittenItem
 rest_items own blocks phases = own ++ (flat_map block_items blocks ++ (flat_map phase_items phases ++ end_item ∷ []))
 
 -- ---- places
 
-pub line_is : (at : Place) → is_line at ≡ true → at ≡ place.Line
+pub line_is : (at : ItemPlace) → is_line at ≡ true → at ≡ place.Line
 line_is place.Line h = refl
 line_is place.Start h = cc
 line_is place.Head h = cc
@@ -73,7 +71,7 @@ line_is place.Clock h = cc
 line_is place.Caller h = cc
 line_is place.Ended h = cc
 
-pub clock_is : (at : Place) → is_clock at ≡ true → at ≡ place.Clock
+pub clock_is : (at : ItemPlace) → is_clock at ≡ true → at ≡ place.Clock
 clock_is place.Clock h = refl
 clock_is place.Start h = cc
 clock_is place.Head h = cc
@@ -83,7 +81,7 @@ clock_is place.Line h = cc
 clock_is place.Caller h = cc
 clock_is place.Ended h = cc
 
-pub caller_is : (at : Place) → is_caller at ≡ true → at ≡ place.Caller
+pub caller_is : (at : ItemPlace) → is_caller at ≡ true → at ≡ place.Caller
 caller_is place.Caller h = refl
 caller_is place.Start h = cc
 caller_is place.Head h = cc
@@ -95,23 +93,23 @@ caller_is place.Ended h = cc
 
 -- ---- one item more of the open block
 
-is_step_inside : (at : Place) (verb : LineVerb) → is_line at ≡ true → is_inside (opening_at at) (Step verb) ≡ true
-is_step_inside at verb h = subst (λ (p : Place). is_inside (opening_at p) (Step verb) ≡ true) (sym (line_is at h)) refl
+is_step_inside : (at : ItemPlace) (verb : LineVerb) → is_line at ≡ true → is_inside (opening_at at) (Step verb) ≡ true
+is_step_inside at verb h = subst (λ (p : ItemPlace). is_inside (opening_at p) (Step verb) ≡ true) (sym (line_is at h)) refl
 
-is_tick_inside : (at : Place) → is_clock at ≡ true → is_inside (opening_at at) Tick ≡ true
-is_tick_inside at h = subst (λ (p : Place). is_inside (opening_at p) Tick ≡ true) (sym (clock_is at h)) refl
+is_tick_inside : (at : ItemPlace) → is_clock at ≡ true → is_inside (opening_at at) Tick ≡ true
+is_tick_inside at h = subst (λ (p : ItemPlace). is_inside (opening_at p) Tick ≡ true) (sym (clock_is at h)) refl
 
-is_call_inside : (at : Place) (verb : CallVerb) → is_caller at ≡ true → is_inside (opening_at at) (Call verb) ≡ true
+is_call_inside : (at : ItemPlace) (verb : CallVerb) → is_caller at ≡ true → is_inside (opening_at at) (Call verb) ≡ true
 is_call_inside at verb h =
-    subst (λ (p : Place). is_inside (opening_at p) (Call verb) ≡ true) (sym (caller_is at h)) refl
+    subst (λ (p : ItemPlace). is_inside (opening_at p) (Call verb) ≡ true) (sym (caller_is at h)) refl
 
 -- the sums of an item more
-arrived_more : (item : Item) (own : List Item) (n : ℕ)
+arrived_more : (item : WrittenItem) (own : List WrittenItem) (n : ℕ)
     → arrivals_by item ≡ n
     → n + sum_by arrivals_by own ≡ sum_by arrivals_by (item ∷ own)
 arrived_more item own n e = let cons = sum_by-cons arrivals_by item own in omega (arith, cons, e)
 
-ticks_more : (item : Item) (own : List Item) (n : ℕ)
+ticks_more : (item : WrittenItem) (own : List WrittenItem) (n : ℕ)
     → ticks_by item ≡ n
     → n + sum_by ticks_by own ≡ sum_by ticks_by (item ∷ own)
 ticks_more item own n e = let cons = sum_by-cons ticks_by item own in omega (arith, cons, e)
@@ -124,20 +122,20 @@ at_equal : (port x y : ℕ) (rest left : ℕ → ℕ)
     → on_port port p y + rest p ≤ left p
 at_equal port x y rest left e h p = subst (λ (n : ℕ). on_port port p n + rest p ≤ left p) e (h p)
 
-abbrev pub characters_rest : List Block → List (List Block) → ℕ → ℕ
+abbrev pub characters_rest : List WrittenBlock → List (List WrittenBlock) → ℕ → ℕ
 characters_rest blocks phases p = characters_count p blocks + sum_by (characters_count p) phases
 
-abbrev pub ticks_rest : List Block → List (List Block) → ℕ → ℕ
+abbrev pub ticks_rest : List WrittenBlock → List (List WrittenBlock) → ℕ → ℕ
 ticks_rest blocks phases p = ticks_count p blocks + sum_by (ticks_count p) phases
 
 -- ..  a line's item
-pub step_before : (s : PlainStand) (verb : LineVerb) (arguments : List (List ℕ)) (own : List Item) (blocks : List Block)
-    (phases : List (List Block))
+pub step_before : (s : PlainStand) (verb : LineVerb) (arguments : List (List ℕ)) (own : List WrittenItem) (blocks : List WrittenBlock)
+    (phases : List (List WrittenBlock))
     → Fits s (Step verb) arguments
     → Rest (stand_after s (Step verb) arguments) own blocks phases
     → Rest s (record { verb = Step verb; arguments = arguments } ∷ own) blocks phases
 step_before s verb arguments own blocks phases fits r =
-    let item : Item = record { verb = Step verb; arguments = arguments } in
+    let item : WrittenItem = record { verb = Step verb; arguments = arguments } in
     let over = or_parts (s.steps_left == 0) (nat_lt (slice_index s.characters_left s.port) (arrivals verb arguments))
     fits.within in
     let some = above_zero s.steps_left over.0 in
@@ -161,13 +159,13 @@ step_before s verb arguments own blocks phases fits r =
           (slice_index s.ticks_left) (let e = ticks_more item own 0 refl in omega (arith, e)) r.few_ticks;
     }
 
-pub step_after : (s : PlainStand) (verb : LineVerb) (arguments : List (List ℕ)) (own : List Item) (blocks : List Block)
-    (phases : List (List Block))
+pub step_after : (s : PlainStand) (verb : LineVerb) (arguments : List (List ℕ)) (own : List WrittenItem) (blocks : List WrittenBlock)
+    (phases : List (List WrittenBlock))
     → may_stand (Step verb) s.place ≡ true
     → Rest s (record { verb = Step verb; arguments = arguments } ∷ own) blocks phases
     → Fits s (Step verb) arguments × Rest (stand_after s (Step verb) arguments) own blocks phases
 step_after s verb arguments own blocks phases at r =
-    let item : Item = record { verb = Step verb; arguments = arguments } in
+    let item : WrittenItem = record { verb = Step verb; arguments = arguments } in
     let chars = at_equal s.port (sum_by arrivals_by (item ∷ own)) (arrivals verb arguments + sum_by arrivals_by own)
     (characters_rest blocks phases) (slice_index s.characters_left)
     (sym (arrived_more item own (arrivals verb arguments) refl)) r.few_characters in
@@ -199,13 +197,13 @@ step_after s verb arguments own blocks phases at r =
     )
 
 -- .. a tick
-pub tick_before : (s : PlainStand) (arguments : List (List ℕ)) (own : List Item) (blocks : List Block)
-    (phases : List (List Block))
+pub tick_before : (s : PlainStand) (arguments : List (List ℕ)) (own : List WrittenItem) (blocks : List WrittenBlock)
+    (phases : List (List WrittenBlock))
     → Fits s Tick arguments
     → Rest (stand_after s Tick arguments) own blocks phases
     → Rest s (record { verb = Tick; arguments = arguments } ∷ own) blocks phases
 tick_before s arguments own blocks phases fits r =
-    let item : Item = record { verb = Tick; arguments = arguments } in
+    let item : WrittenItem = record { verb = Tick; arguments = arguments } in
     let n = number_at arguments 0 in
     let over = or_parts (s.steps_left == 0) (nat_lt (slice_index s.ticks_left s.port) n) fits.within in
     let some = above_zero s.steps_left over.0 in
@@ -227,13 +225,13 @@ tick_before s arguments own blocks phases fits r =
           (spent_more s.ticks_left s.port n (sum_by ticks_by own) (ticks_rest blocks phases) enough r.few_ticks);
     }
 
-pub tick_after : (s : PlainStand) (arguments : List (List ℕ)) (own : List Item) (blocks : List Block)
-    (phases : List (List Block))
+pub tick_after : (s : PlainStand) (arguments : List (List ℕ)) (own : List WrittenItem) (blocks : List WrittenBlock)
+    (phases : List (List WrittenBlock))
     → may_stand Tick s.place ≡ true
     → Rest s (record { verb = Tick; arguments = arguments } ∷ own) blocks phases
     → Fits s Tick arguments × Rest (stand_after s Tick arguments) own blocks phases
 tick_after s arguments own blocks phases at r =
-    let item : Item = record { verb = Tick; arguments = arguments } in
+    let item : WrittenItem = record { verb = Tick; arguments = arguments } in
     let n = number_at arguments 0 in
     let ticks = at_equal s.port (sum_by ticks_by (item ∷ own)) (n + sum_by ticks_by own) (ticks_rest blocks phases)
     (slice_index s.ticks_left) (sym (ticks_more item own n refl)) r.few_ticks in
@@ -263,13 +261,13 @@ tick_after s arguments own blocks phases at r =
     )
 
 -- .. a call
-pub call_before : (s : PlainStand) (verb : CallVerb) (arguments : List (List ℕ)) (own : List Item) (blocks : List Block)
-    (phases : List (List Block))
+pub call_before : (s : PlainStand) (verb : CallVerb) (arguments : List (List ℕ)) (own : List WrittenItem) (blocks : List WrittenBlock)
+    (phases : List (List WrittenBlock))
     → Fits s (Call verb) arguments
     → Rest (stand_after s (Call verb) arguments) own blocks phases
     → Rest s (record { verb = Call verb; arguments = arguments } ∷ own) blocks phases
 call_before s verb arguments own blocks phases fits r =
-    let item : Item = record { verb = Call verb; arguments = arguments } in
+    let item : WrittenItem = record { verb = Call verb; arguments = arguments } in
     let over = or_parts (s.steps_left == 0) (has_many verb (length arguments)) fits.within in
     let some = above_zero s.steps_left over.0 in record {
       own_good =
@@ -288,13 +286,13 @@ call_before s verb arguments own blocks phases fits r =
           (slice_index s.ticks_left) (let e = ticks_more item own 0 refl in omega (arith, e)) r.few_ticks;
     }
 
-pub call_after : (s : PlainStand) (verb : CallVerb) (arguments : List (List ℕ)) (own : List Item) (blocks : List Block)
-    (phases : List (List Block))
+pub call_after : (s : PlainStand) (verb : CallVerb) (arguments : List (List ℕ)) (own : List WrittenItem) (blocks : List WrittenBlock)
+    (phases : List (List WrittenBlock))
     → may_stand (Call verb) s.place ≡ true
     → Rest s (record { verb = Call verb; arguments = arguments } ∷ own) blocks phases
     → Fits s (Call verb) arguments × Rest (stand_after s (Call verb) arguments) own blocks phases
 call_after s verb arguments own blocks phases at r =
-    let item : Item = record { verb = Call verb; arguments = arguments } in (
+    let item : WrittenItem = record { verb = Call verb; arguments = arguments } in (
       record {
         at = at;
         good = r.own_good.0.good;
@@ -322,7 +320,7 @@ call_after s verb arguments own blocks phases at r =
 -- ---- one block more
 
 -- the sums of a block more
-characters_more : (block : Block) (blocks : List Block) (phases : List (List Block)) (port p : ℕ)
+characters_more : (block : WrittenBlock) (blocks : List WrittenBlock) (phases : List (List WrittenBlock)) (port p : ℕ)
     → port_of block ≡ port
     → on_port port p (sum_by arrivals_by block.items) + characters_rest blocks phases p
     ≡ characters_rest (block ∷ blocks) phases p
@@ -332,7 +330,7 @@ characters_more block blocks phases port p e =
     ap (λ (q : ℕ). on_port q p (sum_by arrivals_by block.items)) e in
     omega (arith, cons, here)
 
-block_ticks_more : (block : Block) (blocks : List Block) (phases : List (List Block)) (port p : ℕ)
+block_ticks_more : (block : WrittenBlock) (blocks : List WrittenBlock) (phases : List (List WrittenBlock)) (port p : ℕ)
     → port_of block ≡ port
     → on_port port p (sum_by ticks_by block.items) + ticks_rest blocks phases p ≡ ticks_rest (block ∷ blocks) phases p
 block_ticks_more block blocks phases port p e =
@@ -348,7 +346,7 @@ own_none port rest left h p = let none = none_on (port == p) 0 refl in omega (ar
 none_own : (port : ℕ) (rest left : ℕ → ℕ) → ((p : ℕ) → on_port port p 0 + rest p ≤ left p) → (p : ℕ) → rest p ≤ left p
 none_own port rest left h p = let none = none_on (port == p) 0 refl in omega (arith, h p, none)
 
-characters_before : (block : Block) (blocks : List Block) (phases : List (List Block)) (old port : ℕ) (left : List ℕ)
+characters_before : (block : WrittenBlock) (blocks : List WrittenBlock) (phases : List (List WrittenBlock)) (old port : ℕ) (left : List ℕ)
     → port_of block ≡ port
     → ((p : ℕ) → on_port port p (sum_by arrivals_by block.items) + characters_rest blocks phases p ≤ slice_index left p)
     → (p : ℕ)
@@ -357,7 +355,7 @@ characters_before block blocks phases old port left e h =
     own_none old (characters_rest (block ∷ blocks) phases) (slice_index left)
     (λ p. let more = characters_more block blocks phases port p e in omega (arith, h p, more))
 
-characters_after : (block : Block) (blocks : List Block) (phases : List (List Block)) (old port : ℕ) (left : List ℕ)
+characters_after : (block : WrittenBlock) (blocks : List WrittenBlock) (phases : List (List WrittenBlock)) (old port : ℕ) (left : List ℕ)
     → port_of block ≡ port
     → ((p : ℕ) → on_port old p 0 + characters_rest (block ∷ blocks) phases p ≤ slice_index left p)
     → (p : ℕ)
@@ -367,7 +365,7 @@ characters_after block blocks phases old port left e h p =
     let all = none_own old (characters_rest (block ∷ blocks) phases) (slice_index left) h p in
     omega (arith, all, more)
 
-ticks_before : (block : Block) (blocks : List Block) (phases : List (List Block)) (old port : ℕ) (left : List ℕ)
+ticks_before : (block : WrittenBlock) (blocks : List WrittenBlock) (phases : List (List WrittenBlock)) (old port : ℕ) (left : List ℕ)
     → port_of block ≡ port
     → ((p : ℕ) → on_port port p (sum_by ticks_by block.items) + ticks_rest blocks phases p ≤ slice_index left p)
     → (p : ℕ)
@@ -376,7 +374,7 @@ ticks_before block blocks phases old port left e h =
     own_none old (ticks_rest (block ∷ blocks) phases) (slice_index left)
     (λ p. let more = block_ticks_more block blocks phases port p e in omega (arith, h p, more))
 
-ticks_after : (block : Block) (blocks : List Block) (phases : List (List Block)) (old port : ℕ) (left : List ℕ)
+ticks_after : (block : WrittenBlock) (blocks : List WrittenBlock) (phases : List (List WrittenBlock)) (old port : ℕ) (left : List ℕ)
     → port_of block ≡ port
     → ((p : ℕ) → on_port old p 0 + ticks_rest (block ∷ blocks) phases p ≤ slice_index left p)
     → (p : ℕ)
@@ -386,15 +384,15 @@ ticks_after block blocks phases old port left e h p =
     let all = none_own old (ticks_rest (block ∷ blocks) phases) (slice_index left) h p in
     omega (arith, all, more)
 
-abbrev pub block_with : Verb → List (List ℕ) → List Item → Block
+abbrev pub block_with : Verb → List (List ℕ) → List WrittenItem → WrittenBlock
 block_with verb arguments items = record { opening = record { verb = verb; arguments = arguments }; items = items }
 
-steps_more : (block : Block) (blocks : List Block)
+steps_more : (block : WrittenBlock) (blocks : List WrittenBlock)
     → steps_count (block ∷ blocks) ≡ length block.items + steps_count blocks
 steps_more block blocks = sum_by-cons (λ b. length b.items) block blocks
 
-pub line_before : (s : PlainStand) (arguments : List (List ℕ)) (items : List Item) (blocks : List Block)
-    (phases : List (List Block))
+pub line_before : (s : PlainStand) (arguments : List (List ℕ)) (items : List WrittenItem) (blocks : List WrittenBlock)
+    (phases : List (List WrittenBlock))
     → Fits s Line arguments
     → Rest (stand_after s Line arguments) items blocks phases
     → Rest s [] (block_with Line arguments items ∷ blocks) phases
@@ -413,8 +411,8 @@ line_before s arguments items blocks phases fits r =
       few_ticks = ticks_before block blocks phases s.port n s.ticks_left refl r.few_ticks;
     }
 
-pub line_after : (s : PlainStand) (arguments : List (List ℕ)) (items : List Item) (blocks : List Block)
-    (phases : List (List Block))
+pub line_after : (s : PlainStand) (arguments : List (List ℕ)) (items : List WrittenItem) (blocks : List WrittenBlock)
+    (phases : List (List WrittenBlock))
     → in_phase s.place ≡ true
     → Rest s [] (block_with Line arguments items ∷ blocks) phases
     → Fits s Line arguments × Rest (stand_after s Line arguments) items blocks phases
@@ -436,8 +434,8 @@ line_after s arguments items blocks phases at r =
       },
     )
 
-pub clock_before : (s : PlainStand) (arguments : List (List ℕ)) (items : List Item) (blocks : List Block)
-    (phases : List (List Block))
+pub clock_before : (s : PlainStand) (arguments : List (List ℕ)) (items : List WrittenItem) (blocks : List WrittenBlock)
+    (phases : List (List WrittenBlock))
     → Fits s Clock arguments
     → Rest (stand_after s Clock arguments) items blocks phases
     → Rest s [] (block_with Clock arguments items ∷ blocks) phases
@@ -456,8 +454,8 @@ clock_before s arguments items blocks phases fits r =
       few_ticks = ticks_before block blocks phases s.port n s.ticks_left refl r.few_ticks;
     }
 
-pub clock_after : (s : PlainStand) (arguments : List (List ℕ)) (items : List Item) (blocks : List Block)
-    (phases : List (List Block))
+pub clock_after : (s : PlainStand) (arguments : List (List ℕ)) (items : List WrittenItem) (blocks : List WrittenBlock)
+    (phases : List (List WrittenBlock))
     → in_phase s.place ≡ true
     → Rest s [] (block_with Clock arguments items ∷ blocks) phases
     → Fits s Clock arguments × Rest (stand_after s Clock arguments) items blocks phases
@@ -479,15 +477,15 @@ clock_after s arguments items blocks phases at r =
       },
     )
 
-few_callers : (n : ℕ) → nat_le 16 n ≡ false → n < 16
-few_callers n h = leb-false 16 n h
+few_callers : (n : ℕ) → nat_le MOST_CALLERS n ≡ false → n < MOST_CALLERS
+few_callers n h = leb-false MOST_CALLERS n h
 
-few_by : (n : ℕ) (t : Bool) → nat_le 16 n ≡ t → n < 16 → t ≡ false
-few_by n true e h = absurd (let le = leb-true 16 n e in omega (arith, le, h))
+few_by : (n : ℕ) (t : Bool) → nat_le MOST_CALLERS n ≡ t → n < MOST_CALLERS → t ≡ false
+few_by n true e h = absurd (let le = leb-true MOST_CALLERS n e in omega (arith, le, h))
 few_by n false e h = refl
 
-pub caller_before : (s : PlainStand) (arguments : List (List ℕ)) (items : List Item) (blocks : List Block)
-    (phases : List (List Block))
+pub caller_before : (s : PlainStand) (arguments : List (List ℕ)) (items : List WrittenItem) (blocks : List WrittenBlock)
+    (phases : List (List WrittenBlock))
     → Fits s Caller arguments
     → Rest (stand_after s Caller arguments) items blocks phases
     → Rest s [] (block_with Caller arguments items ∷ blocks) phases
@@ -506,8 +504,8 @@ caller_before s arguments items blocks phases fits r =
       few_ticks = ticks_before block blocks phases s.port n s.ticks_left refl r.few_ticks;
     }
 
-pub caller_after : (s : PlainStand) (arguments : List (List ℕ)) (items : List Item) (blocks : List Block)
-    (phases : List (List Block))
+pub caller_after : (s : PlainStand) (arguments : List (List ℕ)) (items : List WrittenItem) (blocks : List WrittenBlock)
+    (phases : List (List WrittenBlock))
     → in_phase s.place ≡ true
     → Rest s [] (block_with Caller arguments items ∷ blocks) phases
     → Fits s Caller arguments × Rest (stand_after s Caller arguments) items blocks phases
@@ -518,7 +516,7 @@ caller_after s arguments items blocks phases at r =
         at = at;
         good = r.blocks_good.0.good;
         once = r.callers_fit.0;
-        within = few_by (callers_on n s.callers) (nat_le 16 (callers_on n s.callers)) refl r.callers_fit.1;
+        within = few_by (callers_on n s.callers) (nat_le MOST_CALLERS (callers_on n s.callers)) refl r.callers_fit.1;
       },
       record {
         own_good = r.blocks_good.0.each;
@@ -536,7 +534,7 @@ caller_after s arguments items blocks phases at r =
 
 -- ---- one phase more
 
-pub phase_before : (s : PlainStand) (arguments : List (List ℕ)) (blocks : List Block) (phases : List (List Block))
+pub phase_before : (s : PlainStand) (arguments : List (List ℕ)) (blocks : List WrittenBlock) (phases : List (List WrittenBlock))
     → Fits s Phase arguments → Rest (stand_after s Phase arguments) [] blocks phases → Rest s [] [] (blocks ∷ phases)
 phase_before s arguments blocks phases fits r =
     let some = above_zero s.phases_left fits.within in record {
@@ -563,7 +561,7 @@ phase_before s arguments blocks phases fits r =
           let few = r.few_ticks p in let more = sum_by-cons (ticks_count p) blocks phases in omega (arith, few, more);
     }
 
-pub phase_after : (s : PlainStand) (blocks : List Block) (phases : List (List Block))
+pub phase_after : (s : PlainStand) (blocks : List WrittenBlock) (phases : List (List WrittenBlock))
     → (is_before s.place || in_phase s.place) ≡ true
     → Rest s [] [] (blocks ∷ phases)
     → Fits s Phase [] × Rest (stand_after s Phase []) [] blocks phases

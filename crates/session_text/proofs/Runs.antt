@@ -13,14 +13,14 @@ use Rattle.session_text.specs.declared.verbs.Verb.TheVariants.{Session, Ports, F
 use Rattle.session_text.specs.declared.verbs.Verb.TheVariants.{Clock, Caller, Tick, End, Step, Call}
 use Rattle.session_text.specs.declared.verbs.LineVerb.{LineVerb}
 use Rattle.session_text.specs.declared.verbs.CallVerb.{CallVerb}
-use Rattle.session_text.specs.declared.stands.Place.{Place}
-use Rattle.session_text.specs.declared.stands.Place.TheVariants as place
+use Rattle.session_text.specs.declared.stands.ItemPlace.{ItemPlace}
+use Rattle.session_text.specs.declared.stands.ItemPlace.TheVariants as place
 use Rattle.session_text.specs.Verbs.{verb_text}
 use Rattle.session_text.specs.Stands.{PlainStand, verdict_on, stand_after, in_phase, is_before, is_head}
 use Rattle.session_text.specs.Stands.{is_ended, is_line, is_clock, is_caller, may_stand, is_good}
 use Rattle.session_text.specs.Meaning.{steps_in, call_in, empty_phase, with_steps, with_ticks, with_script}
 use Rattle.session_text.specs.Drafts.{PlainDraft, draft_after, session_with, with_call}
-use Rattle.session_text.specs.Grammar.{Item, Block, block_items, phase_item, phase_items, end_item, steps_by}
+use Rattle.session_text.specs.Grammar.{WrittenItem, WrittenBlock, block_items, phase_item, phase_items, end_item, steps_by}
 use Rattle.session_text.specs.Grammar.{calls_by, with_block, phase_meaning, is_inside, opens_block, IsGoodItem}
 use Rattle.session_text.proofs.Rests.{Fits, opening_at, Rest, rest_items, block_with, step_before, step_after}
 use Rattle.session_text.proofs.Rests.{tick_before, tick_after, call_before, call_after, line_before}
@@ -30,28 +30,28 @@ use Rattle.session_text.proofs.Judged.{is_start, good_fits, fits_good, line_verb
 use Rattle.session_text.proofs.Fits.{good_parts}
 use Rattle.session_text.proofs.Added.{with_own, own_nothing, steps_twice, tick_own, calls_more, calls_at_end}
 
-abbrev pub Run : PlainStand → List Item → Type 0
+abbrev pub Run : PlainStand → List WrittenItem → Type 0
 Run s [] = is_ended s.place ≡ true
 Run s (item ∷ items) =
     (verdict_on s (verb_text item.verb) item.arguments ≡ Ok item.verb)
     × Run (stand_after s item.verb item.arguments) items
 
 -- the session that items are read as
-abbrev pub session_read : PlainStand → PlainDraft → List Item → PlainSession
+abbrev pub session_read : PlainStand → PlainDraft → List WrittenItem → PlainSession
 session_read s d [] = session_with s d
 session_read s d (item ∷ items) =
     session_read (stand_after s item.verb item.arguments) (draft_after s d item.verb item.arguments) items
 
-pub record Follows (s : PlainStand) (items : List Item) : Type 0 where
-  pub own : List Item
-  pub blocks : List Block
-  pub phases : List (List Block)
+pub record Follows (s : PlainStand) (items : List WrittenItem) : Type 0 where
+  pub own : List WrittenItem
+  pub blocks : List WrittenBlock
+  pub phases : List (List WrittenBlock)
   pub rest : Rest s own blocks phases
   pub items_are : items ≡ rest_items own blocks phases
 
 -- ---- places that cannot be
 
-ended_no_phase : (at : Place) → is_ended at ≡ true → in_phase at ≡ true → ⊥
+ended_no_phase : (at : ItemPlace) → is_ended at ≡ true → in_phase at ≡ true → ⊥
 ended_no_phase place.Ended e h = cc
 ended_no_phase place.Start e h = cc
 ended_no_phase place.Head e h = cc
@@ -61,7 +61,7 @@ ended_no_phase place.Line e h = cc
 ended_no_phase place.Clock e h = cc
 ended_no_phase place.Caller e h = cc
 
-head_no_phase : (at : Place) → is_head at ≡ true → in_phase at ≡ true → ⊥
+head_no_phase : (at : ItemPlace) → is_head at ≡ true → in_phase at ≡ true → ⊥
 head_no_phase place.Head e h = cc
 head_no_phase place.Start e h = cc
 head_no_phase place.Ended e h = cc
@@ -71,7 +71,7 @@ head_no_phase place.Line e h = cc
 head_no_phase place.Clock e h = cc
 head_no_phase place.Caller e h = cc
 
-before_no_phase : (at : Place) → is_before at ≡ true → in_phase at ≡ true → ⊥
+before_no_phase : (at : ItemPlace) → is_before at ≡ true → in_phase at ≡ true → ⊥
 before_no_phase place.Before e h = cc
 before_no_phase place.Start e h = cc
 before_no_phase place.Ended e h = cc
@@ -95,12 +95,12 @@ nothing_stands (Step verb) h = cc
 nothing_stands (Call verb) h = cc
 
 -- nothing follows the end
-pub ended_run : (items : List Item) (s : PlainStand) → s.place ≡ place.Ended → Run s items → items ≡ []
+pub ended_run : (items : List WrittenItem) (s : PlainStand) → s.place ≡ place.Ended → Run s items → items ≡ []
 ended_run [] s at run = refl
 ended_run (item ∷ items) s at run =
     let fits = good_fits s (verb_text item.verb) item.arguments item.verb
-    (subst (λ (p : Place). is_start p ≡ false) (sym at) refl) run.0 in
-    absurd (nothing_stands item.verb (subst (λ (p : Place). may_stand item.verb p ≡ true) at fits.1.at))
+    (subst (λ (p : ItemPlace). is_start p ≡ false) (sym at) refl) run.0 in
+    absurd (nothing_stands item.verb (subst (λ (p : ItemPlace). may_stand item.verb p ≡ true) at fits.1.at))
 
 -- ---- no words follow `phase` and `end`
 
@@ -114,29 +114,29 @@ no_arguments ports words h = empty_from words (good_parts ports Phase words h).0
 pub no_end_arguments : (ports : ℕ) (words : List (List ℕ)) → is_good ports End words ≡ true → words ≡ []
 no_end_arguments ports words h = empty_from words (good_parts ports End words h).0
 
-own_empty : (ports : ℕ) (own : List Item) → AllByRecursion (IsGoodItem ports Session) own → own ≡ []
+own_empty : (ports : ℕ) (own : List WrittenItem) → AllByRecursion (IsGoodItem ports Session) own → own ≡ []
 own_empty ports [] good = refl
 own_empty ports (item ∷ own) good = let none = good.0.inside in cc
 
 -- ---- what is taken is a rest
 
-pub phase_items_more : (blocks : List Block) (phases : List (List Block))
+pub phase_items_more : (blocks : List WrittenBlock) (phases : List (List WrittenBlock))
     → rest_items [] [] (blocks ∷ phases) ≡ phase_item ∷ rest_items [] blocks phases
-phase_items_more blocks phases = ap (λ (xs : List Item). phase_item ∷ xs)
+phase_items_more blocks phases = ap (λ (xs : List WrittenItem). phase_item ∷ xs)
     (append_assoc (flat_map block_items blocks) (flat_map phase_items phases) (end_item ∷ []))
 
-block_items_more : (opening : Item) (items : List Item) (blocks : List Block) (phases : List (List Block))
+block_items_more : (opening : WrittenItem) (items : List WrittenItem) (blocks : List WrittenBlock) (phases : List (List WrittenBlock))
     → rest_items [] (record { opening = opening; items = items } ∷ blocks) phases
     ≡ opening ∷ rest_items items blocks phases
 block_items_more opening items blocks phases =
-    ap (λ (xs : List Item). opening ∷ xs)
+    ap (λ (xs : List WrittenItem). opening ∷ xs)
     (append_assoc items (flat_map block_items blocks) (flat_map phase_items phases ++ end_item ∷ []))
 
-abbrev pub item_with : Verb → List (List ℕ) → Item
+abbrev pub item_with : Verb → List (List ℕ) → WrittenItem
 item_with verb arguments = record { verb = verb; arguments = arguments }
 
-block_follows : (s : PlainStand) (verb : Verb) (arguments : List (List ℕ)) (items own : List Item) (blocks : List Block)
-    (phases : List (List Block))
+block_follows : (s : PlainStand) (verb : Verb) (arguments : List (List ℕ)) (items own : List WrittenItem) (blocks : List WrittenBlock)
+    (phases : List (List WrittenBlock))
     → Rest s [] (block_with verb arguments own ∷ blocks) phases
     → items ≡ rest_items own blocks phases
     → Follows s (item_with verb arguments ∷ items)
@@ -146,11 +146,11 @@ block_follows s verb arguments items own blocks phases rest same = record {
   phases = phases;
   rest = rest;
   items_are =
-      ap (λ (xs : List Item). item_with verb arguments ∷ xs) same
+      ap (λ (xs : List WrittenItem). item_with verb arguments ∷ xs) same
       ∙ sym (block_items_more (item_with verb arguments) own blocks phases);
 }
 
-own_follows : (s : PlainStand) (item : Item) (items own : List Item) (blocks : List Block) (phases : List (List Block))
+own_follows : (s : PlainStand) (item : WrittenItem) (items own : List WrittenItem) (blocks : List WrittenBlock) (phases : List (List WrittenBlock))
     → Rest s (item ∷ own) blocks phases
     → items ≡ rest_items own blocks phases
     → Follows s (item ∷ items)
@@ -159,16 +159,16 @@ own_follows s item items own blocks phases rest same = record {
   blocks = blocks;
   phases = phases;
   rest = rest;
-  items_are = ap (λ (xs : List Item). item ∷ xs) same;
+  items_are = ap (λ (xs : List WrittenItem). item ∷ xs) same;
 }
 
 -- nothing more of a block, and no further block
-pub record PhasesFollow (s : PlainStand) (items : List Item) : Type 0 where
-  pub phases : List (List Block)
+pub record PhasesFollow (s : PlainStand) (items : List WrittenItem) : Type 0 where
+  pub phases : List (List WrittenBlock)
   pub rest : Rest s [] [] phases
   pub items_are : items ≡ rest_items [] [] phases
 
-pub phase_follows : (s : PlainStand) (arguments : List (List ℕ)) (items : List Item)
+pub phase_follows : (s : PlainStand) (arguments : List (List ℕ)) (items : List WrittenItem)
     → Fits s Phase arguments
     → Follows (stand_after s Phase arguments) items
     → PhasesFollow s (item_with Phase arguments ∷ items)
@@ -176,18 +176,18 @@ phase_follows s arguments items fits f =
     let none = own_empty s.ports f.own f.rest.own_good in
     let bare = no_arguments s.ports arguments fits.good in
     let rest : Rest (stand_after s Phase arguments) [] f.blocks f.phases =
-    subst (λ (own : List Item). Rest (stand_after s Phase arguments) own f.blocks f.phases) none f.rest in
+    subst (λ (own : List WrittenItem). Rest (stand_after s Phase arguments) own f.blocks f.phases) none f.rest in
     let same : items ≡ rest_items [] f.blocks f.phases =
-    f.items_are ∙ ap (λ (own : List Item). rest_items own f.blocks f.phases) none in record {
+    f.items_are ∙ ap (λ (own : List WrittenItem). rest_items own f.blocks f.phases) none in record {
       phases = f.blocks ∷ f.phases;
       rest = phase_before s arguments f.blocks f.phases fits rest;
       items_are =
           ap (λ (words : List (List ℕ)). item_with Phase words ∷ items) bare
-          ∙ ap (λ (xs : List Item). phase_item ∷ xs) same
+          ∙ ap (λ (xs : List WrittenItem). phase_item ∷ xs) same
           ∙ sym (phase_items_more f.blocks f.phases);
     }
 
-pub end_follows : (s : PlainStand) (arguments : List (List ℕ)) (items : List Item)
+pub end_follows : (s : PlainStand) (arguments : List (List ℕ)) (items : List WrittenItem)
     → Fits s End arguments
     → items ≡ []
     → PhasesFollow s (item_with End arguments ∷ items)
@@ -196,13 +196,13 @@ end_follows s arguments items fits none = record {
   rest = end_before s;
   items_are =
       ap (λ (words : List (List ℕ)). item_with End words ∷ items) (no_end_arguments s.ports arguments fits.good)
-      ∙ ap (λ (xs : List Item). end_item ∷ xs) none;
+      ∙ ap (λ (xs : List WrittenItem). end_item ∷ xs) none;
 }
 
-no_block_follows : (s : PlainStand) (items : List Item) → PhasesFollow s items → Follows s items
+no_block_follows : (s : PlainStand) (items : List WrittenItem) → PhasesFollow s items → Follows s items
 no_block_follows s items f = record { own = []; blocks = []; phases = f.phases; rest = f.rest; items_are = f.items_are }
 
-verb_follows : (verb : Verb) (arguments : List (List ℕ)) (items : List Item) (s : PlainStand)
+verb_follows : (verb : Verb) (arguments : List (List ℕ)) (items : List WrittenItem) (s : PlainStand)
     → in_phase s.place ≡ true
     → Fits s verb arguments
     → Run (stand_after s verb arguments) items
@@ -242,7 +242,7 @@ verb_follows (Call verb) arguments items s at fits run later =
     own_follows s (item_with (Call verb) arguments) items f.own f.blocks f.phases
     (call_before s verb arguments f.own f.blocks f.phases fits f.rest) f.items_are
 
-pub run_follows : (items : List Item) (s : PlainStand) → in_phase s.place ≡ true → Run s items → Follows s items
+pub run_follows : (items : List WrittenItem) (s : PlainStand) → in_phase s.place ≡ true → Run s items → Follows s items
 run_follows [] s at run = absurd (ended_no_phase s.place run at)
 run_follows (item ∷ items) s at run =
     let fits = good_fits s (verb_text item.verb) item.arguments item.verb (past_in_phase s.place at) run.0 in
@@ -252,7 +252,7 @@ run_follows (item ∷ items) s at run =
 -- ---- a rest is taken, and read as what it means
 
 -- the session of a rest: its head, the phases before, the open phase with what is added to it, and the further phases
-abbrev pub rest_meant : PlainStand → List ℕ → List PlainPhase → PlainPhase → List Item → List Block → List (List Block)
+abbrev pub rest_meant : PlainStand → List ℕ → List PlainPhase → PlainPhase → List WrittenItem → List WrittenBlock → List (List WrittenBlock)
     → PlainSession
 rest_meant s flips done phase own blocks phases = record {
   version = s.version;
@@ -264,26 +264,26 @@ rest_meant s flips done phase own blocks phases = record {
 abbrev pub draft_with : List ℕ → List PlainPhase → PlainPhase → PlainDraft
 draft_with flips done phase = record { flips = flips; phases = done; open_phase = Some phase }
 
-abbrev pub Meant : PlainStand → List Item → List Item → List Block → List (List Block) → Type 0
+abbrev pub Meant : PlainStand → List WrittenItem → List WrittenItem → List WrittenBlock → List (List WrittenBlock) → Type 0
 Meant s items own blocks phases =
     (flips : List ℕ) (done : List PlainPhase) (phase : PlainPhase)
     → session_read s (draft_with flips done phase) items ≡ rest_meant s flips done phase own blocks phases
 
-pub record Taken (s : PlainStand) (items own : List Item) (blocks : List Block)
-    (phases : List (List Block)) : Type 0 where
+pub record Taken (s : PlainStand) (items own : List WrittenItem) (blocks : List WrittenBlock)
+    (phases : List (List WrittenBlock)) : Type 0 where
   pub run : Run s items
   pub meant : Meant s items own blocks phases
 
-abbrev pub Takes : List Item → Type 0
+abbrev pub Takes : List WrittenItem → Type 0
 Takes items =
-    (s : PlainStand) (own : List Item) (blocks : List Block) (phases : List (List Block))
+    (s : PlainStand) (own : List WrittenItem) (blocks : List WrittenBlock) (phases : List (List WrittenBlock))
     → in_phase s.place ≡ true
     → Rest s own blocks phases
     → items ≡ rest_items own blocks phases
     → Taken s items own blocks phases
 
 -- the open block's first item stands where such an item may
-inside_line : (at : Place) (verb : LineVerb) → is_inside (opening_at at) (Step verb) ≡ true → is_line at ≡ true
+inside_line : (at : ItemPlace) (verb : LineVerb) → is_inside (opening_at at) (Step verb) ≡ true → is_line at ≡ true
 inside_line place.Line verb h = refl
 inside_line place.Start verb h = cc
 inside_line place.Head verb h = cc
@@ -293,7 +293,7 @@ inside_line place.Clock verb h = cc
 inside_line place.Caller verb h = cc
 inside_line place.Ended verb h = cc
 
-inside_clock : (at : Place) → is_inside (opening_at at) Tick ≡ true → is_clock at ≡ true
+inside_clock : (at : ItemPlace) → is_inside (opening_at at) Tick ≡ true → is_clock at ≡ true
 inside_clock place.Clock h = refl
 inside_clock place.Start h = cc
 inside_clock place.Head h = cc
@@ -303,7 +303,7 @@ inside_clock place.Line h = cc
 inside_clock place.Caller h = cc
 inside_clock place.Ended h = cc
 
-inside_caller : (at : Place) (verb : CallVerb) → is_inside (opening_at at) (Call verb) ≡ true → is_caller at ≡ true
+inside_caller : (at : ItemPlace) (verb : CallVerb) → is_inside (opening_at at) (Call verb) ≡ true → is_caller at ≡ true
 inside_caller place.Caller verb h = refl
 inside_caller place.Start verb h = cc
 inside_caller place.Head verb h = cc
@@ -326,24 +326,24 @@ inside_only Caller (Call verb) h = refl
 inside_only opening verb h = cc
 
 -- the same is added, whether at once or one by one
-step_added : (at : Place) (port : ℕ) (verb : LineVerb) (arguments : List (List ℕ)) (own : List Item)
+step_added : (at : ItemPlace) (port : ℕ) (verb : LineVerb) (arguments : List (List ℕ)) (own : List WrittenItem)
     (phase : PlainPhase)
     → at ≡ place.Line
     → with_own at port own (with_steps port (steps_in verb arguments) phase)
     ≡ with_own at port (item_with (Step verb) arguments ∷ own) phase
 step_added at port verb arguments own phase e =
-    subst (λ (p : Place).
+    subst (λ (p : ItemPlace).
     with_own p port own (with_steps port (steps_in verb arguments) phase)
     ≡ with_own p port (item_with (Step verb) arguments ∷ own) phase)
     (sym e)
     (steps_twice port (steps_in verb arguments) (flat_map steps_by own) phase)
 
-tick_added : (at : Place) (port : ℕ) (arguments : List (List ℕ)) (own : List Item) (phase : PlainPhase)
+tick_added : (at : ItemPlace) (port : ℕ) (arguments : List (List ℕ)) (own : List WrittenItem) (phase : PlainPhase)
     → at ≡ place.Clock
     → with_own at port own (with_ticks port (number_at arguments 0) phase)
     ≡ with_own at port (item_with Tick arguments ∷ own) phase
 tick_added at port arguments own phase e =
-    subst (λ (p : Place).
+    subst (λ (p : ItemPlace).
     with_own p port own (with_ticks port (number_at arguments 0) phase)
     ≡ with_own p port (item_with Tick arguments ∷ own) phase)
     (sym e)
@@ -352,13 +352,13 @@ tick_added at port arguments own phase e =
 abbrev pub phase_with_call : PlainCall → PlainPhase → PlainPhase
 phase_with_call call phase = record phase { callers = with_call call phase.callers }
 
-call_added : (at : Place) (port : ℕ) (verb : CallVerb) (arguments : List (List ℕ)) (own : List Item)
+call_added : (at : ItemPlace) (port : ℕ) (verb : CallVerb) (arguments : List (List ℕ)) (own : List WrittenItem)
     (phase : PlainPhase)
     → at ≡ place.Caller
     → with_own at port own (phase_with_call (call_in verb arguments) phase)
     ≡ with_own at port (item_with (Call verb) arguments ∷ own) phase
 call_added at port verb arguments own phase e =
-    subst (λ (p : Place).
+    subst (λ (p : ItemPlace).
     with_own p port own (phase_with_call (call_in verb arguments) phase)
     ≡ with_own p port (item_with (Call verb) arguments ∷ own) phase)
     (sym e)
@@ -366,7 +366,7 @@ call_added at port verb arguments own phase e =
     (calls_more (call_in verb arguments) (flat_map calls_by own) phase.callers))
 
 -- the rest's session at an equal open phase
-meant_at : (s : PlainStand) (flips : List ℕ) (done : List PlainPhase) (blocks : List Block) (phases : List (List Block))
+meant_at : (s : PlainStand) (flips : List ℕ) (done : List PlainPhase) (blocks : List WrittenBlock) (phases : List (List WrittenBlock))
     (one other : PlainPhase)
     → one ≡ other
     → (let r : PlainSession = record {
@@ -392,9 +392,9 @@ meant_at s flips done blocks phases one other e =
     } in
     r) e
 
-own_taken : (verb : Verb) (arguments : List (List ℕ)) (items : List Item)
+own_taken : (verb : Verb) (arguments : List (List ℕ)) (items : List WrittenItem)
     → Takes items
-    → (s : PlainStand) (own : List Item) (blocks : List Block) (phases : List (List Block))
+    → (s : PlainStand) (own : List WrittenItem) (blocks : List WrittenBlock) (phases : List (List WrittenBlock))
     → in_phase s.place ≡ true
     → Rest s (item_with verb arguments ∷ own) blocks phases
     → items ≡ rest_items own blocks phases
@@ -447,9 +447,9 @@ own_taken Clock arguments items takes s own blocks phases at r same inside = cc
 own_taken Caller arguments items takes s own blocks phases at r same inside = cc
 own_taken End arguments items takes s own blocks phases at r same inside = cc
 
-block_taken : (verb : Verb) (arguments : List (List ℕ)) (items : List Item)
+block_taken : (verb : Verb) (arguments : List (List ℕ)) (items : List WrittenItem)
     → Takes items
-    → (s : PlainStand) (own : List Item) (blocks : List Block) (phases : List (List Block))
+    → (s : PlainStand) (own : List WrittenItem) (blocks : List WrittenBlock) (phases : List (List WrittenBlock))
     → in_phase s.place ≡ true
     → Rest s [] (block_with verb arguments own ∷ blocks) phases
     → items ≡ rest_items own blocks phases
@@ -501,9 +501,9 @@ or_right : (a b : Bool) → b ≡ true → (a || b) ≡ true
 or_right true b h = refl
 or_right false b h = h
 
-phase_taken : (items : List Item)
+phase_taken : (items : List WrittenItem)
     → Takes items
-    → (s : PlainStand) (blocks : List Block) (phases : List (List Block))
+    → (s : PlainStand) (blocks : List WrittenBlock) (phases : List (List WrittenBlock))
     → in_phase s.place ≡ true
     → Rest s [] [] (blocks ∷ phases)
     → items ≡ rest_items [] blocks phases
@@ -537,36 +537,36 @@ head_is x y xs ys e = cc
 tail_is : {X : Type 0} (x y : X) (xs ys : List X) → x ∷ xs ≡ y ∷ ys → xs ≡ ys
 tail_is x y xs ys e = cc
 
-no_rest : (own : List Item) (blocks : List Block) (phases : List (List Block)) → [] ≡ rest_items own blocks phases → ⊥
+no_rest : (own : List WrittenItem) (blocks : List WrittenBlock) (phases : List (List WrittenBlock)) → [] ≡ rest_items own blocks phases → ⊥
 no_rest (item ∷ own) blocks phases e = cc
 no_rest [] (block ∷ blocks) phases e = cc
 no_rest [] [] (blocks ∷ phases) e = cc
 no_rest [] [] [] e = cc
 
-takes_next : (item : Item) (items : List Item) → Takes items → Takes (item ∷ items)
+takes_next : (item : WrittenItem) (items : List WrittenItem) → Takes items → Takes (item ∷ items)
 takes_next item items takes s (first ∷ own) blocks phases at r same =
     let here = head_is item first items (rest_items own blocks phases) same in
     let there = tail_is item first items (rest_items own blocks phases) same in
-    subst (λ (i : Item). Taken s (i ∷ items) (first ∷ own) blocks phases) (sym here)
+    subst (λ (i : WrittenItem). Taken s (i ∷ items) (first ∷ own) blocks phases) (sym here)
     (own_taken first.verb first.arguments items takes s own blocks phases at r there
     (inside_only (opening_at s.place) first.verb r.own_good.0.inside))
 takes_next item items takes s [] (block ∷ blocks) phases at r same =
     let parted = same ∙ block_items_more block.opening block.items blocks phases in
     let here = head_is item block.opening items (rest_items block.items blocks phases) parted in
     let there = tail_is item block.opening items (rest_items block.items blocks phases) parted in
-    subst (λ (i : Item). Taken s (i ∷ items) [] (block ∷ blocks) phases) (sym here)
+    subst (λ (i : WrittenItem). Taken s (i ∷ items) [] (block ∷ blocks) phases) (sym here)
     (block_taken block.opening.verb block.opening.arguments items takes s block.items
     blocks phases at r there r.blocks_good.0.opens_one)
 takes_next item items takes s [] [] (blocks ∷ phases) at r same =
     let parted = same ∙ phase_items_more blocks phases in
     let here = head_is item phase_item items (rest_items [] blocks phases) parted in
     let there = tail_is item phase_item items (rest_items [] blocks phases) parted in
-    subst (λ (i : Item). Taken s (i ∷ items) [] [] (blocks ∷ phases)) (sym here)
+    subst (λ (i : WrittenItem). Taken s (i ∷ items) [] [] (blocks ∷ phases)) (sym here)
     (phase_taken items takes s blocks phases at r there)
 takes_next item items takes s [] [] [] at r same =
-    subst (λ (is : List Item). Taken s is [] [] []) (sym same) (end_taken s at)
+    subst (λ (is : List WrittenItem). Taken s is [] [] []) (sym same) (end_taken s at)
 
-pub takes_all : (items : List Item) → Takes items
+pub takes_all : (items : List WrittenItem) → Takes items
 takes_all [] s own blocks phases at r same = absurd (no_rest own blocks phases same)
 takes_all (item ∷ items) s own blocks phases at r same =
     takes_next item items (λ next more others later there rest is. takes_all items next more others later there rest is)

@@ -17,8 +17,8 @@ use Rattle.session_text.specs.Stands.{is_ended, verdict_on, stand_after}
 use Rattle.session_text.specs.Drafts.{draft_after, session_with}
 use Rattle.session_text.specs.Refusals.{next_line, stand_from, or_later, refusal_from, refusal, lines_in}
 use Rattle.session_text.specs.Reading.{PlainReading, first_reading, reading_after_item}
-use Rattle.session_text.specs.Reading.{then_read, session_from, session_in, Gives}
-use Rattle.session_text.specs.Grammar.{Item, item_words, session_items, Spells}
+use Rattle.session_text.specs.Reading.{then_read, session_from, session_in, GivesRead}
+use Rattle.session_text.specs.Grammar.{WrittenItem, item_words, session_items, Spells}
 use Rattle.session_text.proofs.Judged.{word_found}
 use Rattle.session_text.proofs.Runs.{Run, session_read, item_with}
 use Rattle.session_text.proofs.Heads.{run_written, written_taken}
@@ -27,7 +27,7 @@ use Rattle.session_text.proofs.Heads.{run_written, written_taken}
 
 -- what is read of lines: the items of those that say something
 pub record Reads (r : PlainReading) (lines : List (List (List ℕ))) (x : PlainSession) : Type 0 where
-  pub items : List Item
+  pub items : List WrittenItem
   pub words : filter says lines ≡ map item_words items
   pub run : Run r.stand items
   pub session : x ≡ session_read r.stand r.draft items
@@ -108,23 +108,23 @@ lines_read ((word ∷ arguments) ∷ lines) r n x h = line_reads r n word argume
 
 -- ---- items and lines
 
-no_words : (item : Item) (items : List Item) → [] ≡ map item_words (item ∷ items) → ⊥
+no_words : (item : WrittenItem) (items : List WrittenItem) → [] ≡ map item_words (item ∷ items) → ⊥
 no_words item items e = cc
 
 no_items : (words : List (List ℕ)) (rest : List (List (List ℕ))) → words ∷ rest ≡ map item_words [] → ⊥
 no_items words rest e = cc
 
-first_words : (words : List (List ℕ)) (rest : List (List (List ℕ))) (item : Item) (items : List Item)
+first_words : (words : List (List ℕ)) (rest : List (List (List ℕ))) (item : WrittenItem) (items : List WrittenItem)
     → words ∷ rest ≡ map item_words (item ∷ items)
     → words ≡ item_words item
 first_words words rest item items e = cc
 
-later_words : (words : List (List ℕ)) (rest : List (List (List ℕ))) (item : Item) (items : List Item)
+later_words : (words : List (List ℕ)) (rest : List (List (List ℕ))) (item : WrittenItem) (items : List WrittenItem)
     → words ∷ rest ≡ map item_words (item ∷ items)
     → rest ≡ map item_words items
 later_words words rest item items e = cc
 
-end_reads : (items : List Item) (r : PlainReading) (n : ℕ)
+end_reads : (items : List WrittenItem) (r : PlainReading) (n : ℕ)
     → [] ≡ map item_words items
     → Run r.stand items
     → session_from r n [] ≡ Ok (session_read r.stand r.draft items)
@@ -132,11 +132,11 @@ end_reads [] r n e run = ap (end_result r n) run
 end_reads (item ∷ items) r n e run = absurd (no_words item items e)
 
 item_line : (r : PlainReading) (n : ℕ) (word : List ℕ) (arguments : List (List ℕ)) (lines : List (List (List ℕ)))
-    (items : List Item)
+    (items : List WrittenItem)
     → first_is 35 word ≡ false
     → (word ∷ arguments) ∷ filter says lines ≡ map item_words items
     → Run r.stand items
-    → ((next : PlainReading) (more : List Item)
+    → ((next : PlainReading) (more : List WrittenItem)
     → filter says lines ≡ map item_words more
     → Run next.stand more
     → session_from next (next_line n) lines ≡ Ok (session_read next.stand next.draft more))
@@ -161,11 +161,11 @@ item_line r n word arguments lines (item ∷ items) says_one e run later =
     ∙ later next items there run.1
 
 word_line : (r : PlainReading) (n : ℕ) (word : List ℕ) (arguments : List (List ℕ)) (lines : List (List (List ℕ)))
-    (items : List Item) (comment : Bool)
+    (items : List WrittenItem) (comment : Bool)
     → first_is 35 word ≡ comment
     → cond (not comment) ((word ∷ arguments) ∷ filter says lines) (filter says lines) ≡ map item_words items
     → Run r.stand items
-    → ((next : PlainReading) (more : List Item)
+    → ((next : PlainReading) (more : List WrittenItem)
     → filter says lines ≡ map item_words more
     → Run next.stand more
     → session_from next (next_line n) lines ≡ Ok (session_read next.stand next.draft more))
@@ -177,7 +177,7 @@ word_line r n word arguments lines items true comment e run later =
 word_line r n word arguments lines items false comment e run later =
     item_line r n word arguments lines items comment e run later
 
-pub items_read : (lines : List (List (List ℕ))) (r : PlainReading) (n : ℕ) (items : List Item)
+pub items_read : (lines : List (List (List ℕ))) (r : PlainReading) (n : ℕ) (items : List WrittenItem)
     → filter says lines ≡ map item_words items
     → Run r.stand items
     → session_from r n lines ≡ Ok (session_read r.stand r.draft items)
@@ -271,13 +271,13 @@ unrefused_spells text h = spells_by text (session_in text) refl (text_fault text
 -- ---- what the reader gave
 
 pub given_spells : (text : List ℕ) (result : Result Session TextFault)
-    → Gives session_of result (session_in text)
+    → GivesRead session_of result (session_in text)
     → IfOk result (λ session. Spells text (session_of session))
 given_spells text (Ok session) h = read_spells text (session_of session) h
 given_spells text (Err fault) h = tt
 
 pub given_bad : (text : List ℕ) (result : Result Session TextFault)
-    → Gives session_of result (session_in text)
+    → GivesRead session_of result (session_in text)
     → (line : BadLine)
     → result ≡ Err (Bad line)
     → refusal text ≡ Some line
@@ -287,7 +287,7 @@ given_bad text (Err (Bad other)) h line e =
     let same : other ≡ line = cc in sym (text_fault text) ∙ ap fault_in h ∙ ap Some same
 
 pub given_refused : (text : List ℕ) (result : Result Session TextFault)
-    → Gives session_of result (session_in text)
+    → GivesRead session_of result (session_in text)
     → (line : BadLine)
     → refusal text ≡ Some line
     → (result ≡ Err (Bad line)) ⊎ (result ≡ Err NoMemory)

@@ -11,7 +11,6 @@ use Rattle.tty_calls.specs.Plain.{PlainCall}
 use Rattle.tty_calls.specs.Sessions.{PlainScript, PlainPhase, PlainSession, line_on, scripts_on, scripts_over}
 use Rattle.tty_calls.specs.Limits.{byte_count}
 use Rattle.line_steps.specs.Steps.{rx_step}
-use Rattle.text_lines.specs.Lines.{says}
 use Rattle.text_lines.specs.Values.{bytes_of, word_at, number_at}
 use Rattle.session_text.specs.declared.verbs.Verb.{Verb}
 use Rattle.session_text.specs.declared.verbs.Verb.TheVariants.{Session, Ports, Flip, Phase, Line}
@@ -22,8 +21,7 @@ use Rattle.session_text.specs.declared.verbs.CallVerb.TheVariants as call
 use Rattle.session_text.specs.Asked.{asked_of}
 use Rattle.session_text.specs.Verbs.{call_text, verb_text}
 use Rattle.session_text.specs.Meaning.{call_in, empty_phase}
-use Rattle.session_text.specs.Refusals.{lines_in}
-use Rattle.session_text.specs.Grammar.{Item, Block, Written, item_words, flip_item, block_items}
+use Rattle.session_text.specs.Grammar.{WrittenItem, WrittenBlock, Written, item_words, flip_item, block_items}
 use Rattle.session_text.specs.Grammar.{phase_items, end_item, session_items, steps_by, calls_by}
 use Rattle.session_text.specs.Grammar.{with_block_of, with_block, phase_meaning, ports_of, Spells}
 use Rattle.session_text.proofs.TextSizes.{size, sizes, text_size}
@@ -123,19 +121,19 @@ item_size End words = omega arith
 
 -- ---- items
 
-abbrev items_size : List Item → ℕ
+abbrev items_size : List WrittenItem → ℕ
 items_size [] = 0
 items_size (item ∷ items) = size (item_words item) + items_size items
 
-same_sizes : (items : List Item) → sizes (map item_words items) ≡ items_size items
+same_sizes : (items : List WrittenItem) → sizes (map item_words items) ≡ items_size items
 same_sizes [] = refl
 same_sizes (item ∷ items) = ap (λ (n : ℕ). size (item_words item) + n) (same_sizes items)
 
-items_append : (xs ys : List Item) → items_size (xs ++ ys) ≡ items_size xs + items_size ys
+items_append : (xs ys : List WrittenItem) → items_size (xs ++ ys) ≡ items_size xs + items_size ys
 items_append [] ys = omega arith
 items_append (x ∷ xs) ys = (let rest = items_append xs ys in omega (arith, rest))
 
-items_ask : (items : List Item) → asked (flat_map calls_by items) (flat_map steps_by items) ≤ items_size items
+items_ask : (items : List WrittenItem) → asked (flat_map calls_by items) (flat_map steps_by items) ≤ items_size items
 items_ask [] = omega arith
 items_ask (item ∷ items) =
     let here = item_size item.verb item.arguments in
@@ -179,7 +177,7 @@ one_script f p [] script = last_either f (script.port == p) script
 one_script f p (x ∷ xs) script = first_either f (x.port == p) x (filter (λ s. s.port == p) (xs ++ script ∷ []))
     (filter (λ s. s.port == p) xs) (f script) (one_script f p xs script)
 
-block_asks : (verb : Verb) (words : List (List ℕ)) (items : List Item) (phase : PlainPhase) (p : ℕ)
+block_asks : (verb : Verb) (words : List (List ℕ)) (items : List WrittenItem) (phase : PlainPhase) (p : ℕ)
     → asks p (with_block_of verb words items phase) ≤ asks p phase + items_size items
 block_asks Line words items phase p =
     omega (arith, grows_at phase.lines (number_at words 0) p (flat_map steps_by items), items_ask items)
@@ -202,7 +200,7 @@ block_asks End words items phase p = omega arith
 block_asks (Step verb) words items phase p = omega arith
 block_asks (Call verb) words items phase p = omega arith
 
-blocks_ask : (blocks : List Block) (phase : PlainPhase) (p : ℕ)
+blocks_ask : (blocks : List WrittenBlock) (phase : PlainPhase) (p : ℕ)
     → asks p (fold with_block phase blocks) ≤ asks p phase + items_size (flat_map block_items blocks)
 blocks_ask [] phase p = omega arith
 blocks_ask (block ∷ blocks) phase p =
@@ -216,14 +214,14 @@ none_at zero p = refl
 none_at (suc n) zero = refl
 none_at (suc n) (suc p) = none_at n p
 
-phase_asks : (ports : ℕ) (blocks : List Block) (p : ℕ)
+phase_asks : (ports : ℕ) (blocks : List WrittenBlock) (p : ℕ)
     → asks p (phase_meaning ports blocks) ≤ items_size (phase_items blocks)
 phase_asks ports blocks p =
     (let none = none_at ports p in let all = blocks_ask blocks (empty_phase ports) p in omega (arith, none, all))
 
 -- ---- all phases
 
-phases_ask : (ports : ℕ) (phases : List (List Block)) (p : ℕ)
+phases_ask : (ports : ℕ) (phases : List (List WrittenBlock)) (p : ℕ)
     → asked_of p (map (phase_meaning ports) phases) ≤ items_size (flat_map phase_items phases)
 phases_ask ports [] p = omega arith
 phases_ask ports (blocks ∷ phases) p =

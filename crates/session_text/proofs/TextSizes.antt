@@ -1,9 +1,8 @@
 -- A text is as long as the words of its lines.
 use Rattle.std.proofs.Common.{◌≡◌, ℕ, suc, ◌+◌, ◌≤◌, Bool, true, false, List}
-use Rattle.std.proofs.Common.{[], ◌∷◌, ◌++◌, cond, length, map, refl, ap, arith}
+use Rattle.std.proofs.Common.{[], ◌∷◌, cond, length, map, refl, arith}
 use Rattle.std.specs.Prelude.{filter}
 use Rattle.std.specs.List.{slice_split, onto_first}
-use Rattle.std.proofs.lemmas.Bool.{cond_both}
 use Rattle.text_lines.specs.Lines.{is_newline, is_blank, lines_of, has_bytes, words_of, says}
 use Rattle.session_text.specs.Refusals.{lines_in}
 

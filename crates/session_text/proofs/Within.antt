@@ -13,6 +13,7 @@ use Rattle.std.proofs.lemmas.List.{length-append, length-replicate, length-set, 
 use Rattle.std.proofs.lemmas.List.{get_or-set_same, get_or-set_other, map-append}
 use Rattle.std.proofs.lemmas.List.Elements.{All-replicate, All-append, All-nil, All-cons, All-set}
 use Rattle.std.proofs.lemmas.List.Sums.{sum_by-cons, sum_by-append}
+use Rattle.tty_base.specs.Sizes.{DEFAULT_FLIP, LAST_HANDLE, LEAST_FLIP, MOST_ASKED, MOST_CALLERS, MOST_FLIP, MOST_PORTS}
 use Rattle.hex.specs.declared.error.FromHexError.{FromHexError}
 use Rattle.hex.specs.Hex.{decode_of}
 use Rattle.hex.proofs.HexLemmas.{decode_of-ok}
@@ -26,8 +27,8 @@ use Rattle.tty_calls.specs.Limits.{byte_count, IsCallWithin, IsScriptWithin, IsP
 use Rattle.tty_calls.specs.Limits.{call_count, character_count, tick_count, IsWithinLimits}
 use Rattle.text_lines.specs.Values.{is_number, number_of, is_hex, bytes_of, word_at, number_at}
 use Rattle.session_text.specs.declared.faults.Reason.TheVariants as reason
-use Rattle.session_text.specs.declared.kinds.Kind.{Kind}
-use Rattle.session_text.specs.declared.kinds.Kind.TheVariants as kind
+use Rattle.session_text.specs.declared.kinds.ArgumentKind.{ArgumentKind}
+use Rattle.session_text.specs.declared.kinds.ArgumentKind.TheVariants as kind
 use Rattle.session_text.specs.declared.verbs.Verb.{Verb}
 use Rattle.session_text.specs.declared.verbs.Verb.TheVariants.{Session, Ports, Flip, Phase, Line}
 use Rattle.session_text.specs.declared.verbs.Verb.TheVariants.{Clock, Caller, Tick, End, Step, Call}
@@ -39,10 +40,10 @@ use Rattle.session_text.specs.Kinds.{kind_at, fault_of, limit_fault, is_trigger}
 use Rattle.session_text.specs.Stands.{PlainKey, same_key, callers_on, arrivals, is_good}
 use Rattle.line_steps.specs.Steps.{rx_step}
 use Rattle.session_text.specs.Meaning.{steps_in, call_on, call_in, empty_phase}
-use Rattle.session_text.specs.Grammar.{Item, Block, Written, steps_by, ticks_by, calls_by, arrivals_by}
+use Rattle.session_text.specs.Grammar.{WrittenItem, WrittenBlock, Written, steps_by, ticks_by, calls_by, arrivals_by}
 use Rattle.session_text.specs.Grammar.{with_block, phase_meaning, with_flip, session_meaning, version_of}
 use Rattle.session_text.specs.Grammar.{ports_of, opens_block, IsGoodItem, IsGoodBlock, IsGoodPhase}
-use Rattle.session_text.specs.Grammar.{IsGoodFlip, IsGood, CallersFit, caller_key, caller_keys, steps_count}
+use Rattle.session_text.specs.Grammar.{IsGoodFlip, IsWellWritten, CallersFit, caller_key, caller_keys, steps_count}
 use Rattle.session_text.specs.Grammar.{block_characters, characters_count, block_ticks, ticks_count, Spells}
 use Rattle.session_text.proofs.Bounds.{on_port}
 use Rattle.session_text.proofs.Fits.{good_parts, no_fault_at, good_number, limit_none}
@@ -67,7 +68,7 @@ number_between : (ports : ℕ) (verb : Verb) (words : List (List ℕ)) (at least
 number_between ports verb words at least most good within k =
     let fault = no_fault_at ports verb words 0 at (good_parts ports verb words good).1 within in
     between (is_number (word_at words at)) (number_of (word_at words at)) least most
-    (subst (λ (k : Kind). fault_of ports k (word_at words at) ≡ None) k fault)
+    (subst (λ (k : ArgumentKind). fault_of ports k (word_at words at) ≡ None) k fault)
 
 bytes_by : (digits : List ℕ) (read : Result (List ℕ) FromHexError)
     → decode_of digits ≡ read
@@ -91,7 +92,7 @@ hex_within : (ports : ℕ) (verb : Verb) (words : List (List ℕ)) (at most : �
 hex_within ports verb words at most good within k =
     let fault = no_fault_at ports verb words 0 at (good_parts ports verb words good).1 within in
     let few = hex_by (is_hex (word_at words at)) (length (word_at words at) / 2) most
-    (subst (λ (k : Kind). fault_of ports k (word_at words at) ≡ None) k fault) in
+    (subst (λ (k : ArgumentKind). fault_of ports k (word_at words at) ≡ None) k fault) in
     let half = length-bytes_of (word_at words at) in
     omega (arith, few, half)
 
@@ -192,7 +193,7 @@ item_arrivals Tick words = omega arith
 item_arrivals End words = omega arith
 item_arrivals (Call verb) words = omega arith
 
-items_steps : (ports : ℕ) (opening : Verb) (items : List Item)
+items_steps : (ports : ℕ) (opening : Verb) (items : List WrittenItem)
     → AllByRecursion (IsGoodItem ports opening) items
     → AreSteps (flat_map steps_by items)
 items_steps ports opening [] good = All-nil (λ step. IsTrue (is_step step))
@@ -200,7 +201,7 @@ items_steps ports opening (item ∷ items) good =
     All-append (λ step. IsTrue (is_step step)) (steps_by item) (flat_map steps_by items)
     (item_steps ports item.verb item.arguments good.0.good) (items_steps ports opening items good.1)
 
-items_arrivals : (items : List Item) → arrival_count (flat_map steps_by items) ≤ sum_by arrivals_by items
+items_arrivals : (items : List WrittenItem) → arrival_count (flat_map steps_by items) ≤ sum_by arrivals_by items
 items_arrivals [] = omega arith
 items_arrivals (item ∷ items) =
     let both = count-append (steps_by item) (flat_map steps_by items) in
@@ -234,13 +235,13 @@ handle_is call.Take h words = refl
 
 bytes_within : (ports : ℕ) (verb : CallVerb) (words : List (List ℕ))
     → is_good ports (Call verb) words ≡ true
-    → byte_count (call_in verb words) ≤ 65536
+    → byte_count (call_in verb words) ≤ MOST_ASKED
 bytes_within ports call.Write words good =
     let count = eqb-true (length words) 2 (good_parts ports (Call call.Write) words good).0 in
-    hex_within ports (Call call.Write) words 1 65536 good (omega (arith, count)) refl
+    hex_within ports (Call call.Write) words 1 MOST_ASKED good (omega (arith, count)) refl
 bytes_within ports call.Send words good =
     let count = eqb-true (length words) 2 (good_parts ports (Call call.Send) words good).0 in
-    hex_within ports (Call call.Send) words 1 65536 good (omega (arith, count)) refl
+    hex_within ports (Call call.Send) words 1 MOST_ASKED good (omega (arith, count)) refl
 bytes_within ports call.Open words good = omega arith
 bytes_within ports call.Close words good = omega arith
 bytes_within ports call.Read words good = omega arith
@@ -264,7 +265,7 @@ call_within : (ports : ℕ) (verb : CallVerb) (words : List (List ℕ))
     → IsCallWithin (call_in verb words)
 call_within ports verb words good = record {
   handle =
-      let h = good_number ports (Call verb) words 0 0 31 good refl in
+      let h = good_number ports (Call verb) words 0 0 LAST_HANDLE good refl in
       let same = handle_is verb (number_at words 0) words in omega (arith, h, same);
   bytes = bytes_within ports verb words good;
 }
@@ -288,7 +289,7 @@ item_calls ports Tick words good = (All-nil IsCallWithin, omega arith)
 item_calls ports End words good = (All-nil IsCallWithin, omega arith)
 item_calls ports (Step verb) words good = (All-nil IsCallWithin, omega arith)
 
-items_calls : (ports : ℕ) (opening : Verb) (items : List Item)
+items_calls : (ports : ℕ) (opening : Verb) (items : List WrittenItem)
     → AllByRecursion (IsGoodItem ports opening) items
     → All IsCallWithin (flat_map calls_by items) × (length (flat_map calls_by items) ≤ length items)
 items_calls ports opening [] good = (All-nil IsCallWithin, omega arith)
@@ -406,10 +407,10 @@ more_at : (b : Bool) (m n : ℕ) → m ≤ n → cond b m 0 ≤ cond b n 0
 more_at true m n h = h
 more_at false m n h = omega arith
 
-abbrev pub block_with : Verb → List (List ℕ) → List Item → Block
+abbrev pub block_with : Verb → List (List ℕ) → List WrittenItem → WrittenBlock
 block_with verb words items = record { opening = record { verb = verb; arguments = words }; items = items }
 
-holds_more : (verb : Verb) (words : List (List ℕ)) (items : List Item) (ports : ℕ) (phase : PlainPhase)
+holds_more : (verb : Verb) (words : List (List ℕ)) (items : List WrittenItem) (ports : ℕ) (phase : PlainPhase)
     (keys : List PlainKey) (calls : ℕ) (characters_most ticks_most : Counts)
     → opens_block verb ≡ true
     → is_good ports verb words ≡ true
@@ -488,11 +489,11 @@ holds_more (Call verb) words items ports phase keys calls characters_most ticks_
 
 -- after all blocks of a phase
 pub record HoldsAll (ports : ℕ) (phase : PlainPhase) (keys : List PlainKey) (calls : ℕ)
-    (characters_most ticks_most : Counts) (blocks : List Block) : Type 0 where
+    (characters_most ticks_most : Counts) (blocks : List WrittenBlock) : Type 0 where
   pub all : Holds ports (fold with_block phase blocks) (keys ++ caller_keys blocks) (calls + steps_count blocks)
       (λ p. characters_most p + characters_count p blocks) (λ p. ticks_most p + ticks_count p blocks)
 
-holds_all : (blocks : List Block) (ports : ℕ) (phase : PlainPhase) (keys : List PlainKey) (calls : ℕ)
+holds_all : (blocks : List WrittenBlock) (ports : ℕ) (phase : PlainPhase) (keys : List PlainKey) (calls : ℕ)
     (characters_most ticks_most : Counts)
     → AllByRecursion (IsGoodBlock ports) blocks
     → Holds ports phase keys calls characters_most ticks_most
@@ -525,7 +526,7 @@ holds_all (block ∷ blocks) ports phase keys calls characters_most ticks_most g
             r.keys_are ∙ append_assoc keys (caller_key block.opening.verb block.opening.arguments) (caller_keys blocks);
         few_calls =
             let few = r.few_calls in
-            let cons = sum_by-cons (λ (b : Block). length b.items) block blocks in omega (arith, few, cons);
+            let cons = sum_by-cons (λ (b : WrittenBlock). length b.items) block blocks in omega (arith, few, cons);
         few_characters = λ p.
             let few = r.few_characters p in
             let cons = sum_by-cons (block_characters p) block blocks in omega (arith, few, cons);
@@ -564,24 +565,26 @@ holds_empty ports = record {
 on_one : (key : PlainKey) (p : ℕ) (b : Bool)
     → (key.port == p) ≡ b
     → (n : ℕ)
-    → n ≤ 16
-    → (key.port ≡ p → n < 16)
-    → n + cond b 1 0 ≤ 16
+    → n ≤ MOST_CALLERS
+    → (key.port ≡ p → n < MOST_CALLERS)
+    → n + cond b 1 0 ≤ MOST_CALLERS
 on_one key p true e n few less = let lt = less (eqb-true key.port p e) in omega (arith, lt)
 on_one key p false e n few less = omega (arith, few)
 
 -- at most 16 callers of a port fit
 callers_few : (keys before : List PlainKey) (p : ℕ)
     → CallersFit before keys
-    → callers_on p before ≤ 16
-    → callers_on p (before ++ keys) ≤ 16
-callers_few [] before p fit few = subst (λ (ks : List PlainKey). callers_on p ks ≤ 16) (sym (append-nil before)) few
+    → callers_on p before ≤ MOST_CALLERS
+    → callers_on p (before ++ keys) ≤ MOST_CALLERS
+callers_few [] before p fit few =
+    subst (λ (ks : List PlainKey). callers_on p ks ≤ MOST_CALLERS) (sym (append-nil before)) few
 callers_few (key ∷ keys) before p fit few =
     let both = sum_by-append (λ (k : PlainKey). cond (k.port == p) 1 0) before (key ∷ []) in
-    let lt : key.port ≡ p → callers_on p before < 16 = λ same. subst (λ (q : ℕ). callers_on q before < 16) same fit.1 in
+    let lt : key.port ≡ p → callers_on p before < MOST_CALLERS =
+    λ same. subst (λ (q : ℕ). callers_on q before < MOST_CALLERS) same fit.1 in
     let here = on_one key p (key.port == p) refl (callers_on p before) few lt in
-    let next : callers_on p (before ++ key ∷ []) ≤ 16 = omega (arith, both, here) in
-    subst (λ (ks : List PlainKey). callers_on p ks ≤ 16) (append_assoc before (key ∷ []) keys)
+    let next : callers_on p (before ++ key ∷ []) ≤ MOST_CALLERS = omega (arith, both, here) in
+    subst (λ (ks : List PlainKey). callers_on p ks ≤ MOST_CALLERS) (append_assoc before (key ∷ []) keys)
     (callers_few keys (before ++ key ∷ []) p fit.2 next)
 
 count_by_keys : (scripts : List PlainScript) (p : ℕ)
@@ -698,7 +701,7 @@ own_names (script ∷ scripts) before p fit =
 
 -- ---- a phase, and all phases
 
-phase_within : (ports : ℕ) (blocks : List Block)
+phase_within : (ports : ℕ) (blocks : List WrittenBlock)
     → IsGoodPhase ports blocks
     → Holds ports (phase_meaning ports blocks) (caller_keys blocks) (steps_count blocks)
     (λ p. characters_count p blocks) (λ p. ticks_count p blocks)
@@ -718,7 +721,7 @@ phase_within ports blocks good h =
       own_names = λ p. own_names phase.callers [] p fit;
     }
 
-phase_holds : (ports : ℕ) (blocks : List Block)
+phase_holds : (ports : ℕ) (blocks : List WrittenBlock)
     → IsGoodPhase ports blocks
     → Holds ports (phase_meaning ports blocks) (caller_keys blocks) (steps_count blocks)
     (λ p. characters_count p blocks) (λ p. ticks_count p blocks)
@@ -735,7 +738,7 @@ phase_holds ports blocks good =
       few_ticks = λ p. let few = r.few_ticks p in omega (arith, few);
     }
 
-pub record PhasesWithin (ports : ℕ) (phases : List (List Block)) : Type 0 where
+pub record PhasesWithin (ports : ℕ) (phases : List (List WrittenBlock)) : Type 0 where
   pub each : All (IsPhaseWithin ports) (map (phase_meaning ports) phases)
   pub few_calls : call_count (map (phase_meaning ports) phases) ≤ sum_by steps_count phases
   pub few_characters : (p : ℕ)
@@ -745,7 +748,7 @@ pub record PhasesWithin (ports : ℕ) (phases : List (List Block)) : Type 0 wher
 abbrev pub calls_in_phase : PlainPhase → ℕ
 calls_in_phase phase = sum_by (λ (script : PlainScript). length script.calls) phase.callers
 
-phases_within : (ports : ℕ) (phases : List (List Block))
+phases_within : (ports : ℕ) (phases : List (List WrittenBlock))
     → AllByRecursion (IsGoodPhase ports) phases
     → PhasesWithin ports phases
 phases_within ports [] good = record {
@@ -784,8 +787,8 @@ phases_within ports (blocks ∷ phases) good =
 
 pub record FlipsWithin (ports : ℕ) (flips : List ℕ) : Type 0 where
   pub count : length flips ≡ ports
-  pub least : All (λ n. 64 ≤ n) flips
-  pub most : All (λ n. n ≤ 65536) flips
+  pub least : All (λ n. LEAST_FLIP ≤ n) flips
+  pub most : All (λ n. n ≤ MOST_FLIP) flips
 
 flips_within : (arguments : List (List (List ℕ))) (version ports : ℕ) (flips : List ℕ)
     → AllByRecursion (IsGoodFlip version ports) arguments
@@ -796,23 +799,23 @@ flips_within (words ∷ arguments) version ports flips good h =
     let q = number_at words 0 in
     let n = number_at words 1 in
     let count = eqb-true (length words) 2 (good_parts ports Flip words good.0.good).0 in
-    let range = number_between ports Flip words 1 64 65536 good.0.good (omega (arith, count)) refl in
+    let range = number_between ports Flip words 1 LEAST_FLIP MOST_FLIP good.0.good (omega (arith, count)) refl in
     flips_within arguments version ports (set flips q n) good.1 (record {
       count = length-set flips q n ∙ h.count;
-      least = All-set (λ n. 64 ≤ n) flips q n range.0 h.least;
-      most = All-set (λ n. n ≤ 65536) flips q n range.1 h.most;
+      least = All-set (λ n. LEAST_FLIP ≤ n) flips q n range.0 h.least;
+      most = All-set (λ n. n ≤ MOST_FLIP) flips q n range.1 h.most;
     })
 
 -- ---- the session
 
-pub written_within : (w : Written) → IsGood w → IsWithinLimits (session_meaning w)
+pub written_within : (w : Written) → IsWellWritten w → IsWithinLimits (session_meaning w)
 written_within w good =
     let ports = ports_of w in
-    let range = number_between 0 Ports (w.ports ∷ []) 0 1 8 good.ports (omega arith) refl in
-    let flips = flips_within w.flips (version_of w) ports (replicate ports 4096) good.flips (record {
-      count = length-replicate ports 4096;
-      least = All-replicate (λ n. 64 ≤ n) ports 4096 (omega arith);
-      most = All-replicate (λ n. n ≤ 65536) ports 4096 (omega arith);
+    let range = number_between 0 Ports (w.ports ∷ []) 0 1 MOST_PORTS good.ports (omega arith) refl in
+    let flips = flips_within w.flips (version_of w) ports (replicate ports DEFAULT_FLIP) good.flips (record {
+      count = length-replicate ports DEFAULT_FLIP;
+      least = All-replicate (λ n. LEAST_FLIP ≤ n) ports DEFAULT_FLIP (omega arith);
+      most = All-replicate (λ n. n ≤ MOST_FLIP) ports DEFAULT_FLIP (omega arith);
     }) in
     let all = phases_within ports w.phases good.phases in record {
       some_ports = let least = range.0 in omega (arith, least);

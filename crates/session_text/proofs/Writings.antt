@@ -26,7 +26,7 @@ use Rattle.session_text.specs.declared.verbs.CallVerb.{CallVerb}
 use Rattle.session_text.specs.declared.verbs.CallVerb.TheVariants as call
 use Rattle.session_text.specs.Stands.{is_good}
 use Rattle.session_text.specs.Meaning.{steps_in, call_on, empty_phase}
-use Rattle.session_text.specs.Grammar.{Item, Block, steps_by, calls_by, with_block}
+use Rattle.session_text.specs.Grammar.{WrittenItem, WrittenBlock, steps_by, calls_by, with_block}
 use Rattle.session_text.specs.Grammar.{phase_meaning, IsGoodBlock, IsGoodPhase, ports_of, Spells}
 use Rattle.session_text.proofs.Fits.{good_parts, no_fault_at, word_none}
 use Rattle.session_text.specs.Writable.{IsByteStep, SetsModeWords, IsWrittenScript, IsWrittenPhase}
@@ -160,7 +160,7 @@ caller_named ports words good =
     let count : length words ≡ 2 = eqb-true (length words) 2 parts.0 in
     word_none (is_name (word_at words 0)) (no_fault_at ports Caller words 0 0 parts.1 (omega (arith, count)))
 
-with_block_written : (ports : ℕ) (verb : Verb) (words : List (List ℕ)) (items : List Item) (phase : PlainPhase)
+with_block_written : (ports : ℕ) (verb : Verb) (words : List (List ℕ)) (items : List WrittenItem) (phase : PlainPhase)
     → is_good ports verb words ≡ true
     → IsWrittenPhase phase
     → IsWrittenPhase (with_block phase (record { opening = record { verb = verb; arguments = words }; items = items }))
@@ -194,7 +194,7 @@ with_block_written ports End words items phase good h = h
 with_block_written ports (Step verb) words items phase good h = h
 with_block_written ports (Call verb) words items phase good h = h
 
-blocks_written : (ports : ℕ) (blocks : List Block) (phase : PlainPhase)
+blocks_written : (ports : ℕ) (blocks : List WrittenBlock) (phase : PlainPhase)
     → AllByRecursion (IsGoodBlock ports) blocks
     → IsWrittenPhase phase
     → IsWrittenPhase (fold with_block phase blocks)
@@ -207,7 +207,7 @@ no_lines : (ports : ℕ) → AllByRecursion (AllByRecursion IsByteStep) (replica
 no_lines zero = tt
 no_lines (suc n) = (tt, no_lines n)
 
-phases_written : (ports : ℕ) (phases : List (List Block))
+phases_written : (ports : ℕ) (phases : List (List WrittenBlock))
     → AllByRecursion (IsGoodPhase ports) phases
     → AllByRecursion IsWrittenPhase (map (phase_meaning ports) phases)
 phases_written ports [] good = tt

@@ -1,6 +1,7 @@
 -- A session as far as it was read.
 use Rattle.std.specs.Prelude.{ℕ, ◌∷◌, ◌++◌, List, [], replicate, slice_set}
 use Rattle.std.specs.Prelude.{Option, None, Some, option_map, option_to_list}
+use Rattle.tty_base.specs.Sizes.{DEFAULT_FLIP}
 use Rattle.tty_calls.specs.Plain.{PlainCall}
 use Rattle.tty_calls.specs.Sessions.{PlainScript, PlainPhase, PlainSession}
 use Rattle.text_lines.specs.Values.{word_at, number_at}
@@ -46,7 +47,7 @@ phase_after s verb arguments phase = phase
 -- the draft after an item that was read at this stand
 abbrev pub draft_after : PlainStand → PlainDraft → Verb → List (List ℕ) → PlainDraft
 draft_after s d Session arguments = d
-draft_after s d Ports arguments = record d { flips = replicate (number_at arguments 0) 4096 }
+draft_after s d Ports arguments = record d { flips = replicate (number_at arguments 0) DEFAULT_FLIP }
 draft_after s d Flip arguments = record d { flips = slice_set d.flips (number_at arguments 0) (number_at arguments 1) }
 draft_after s d Phase arguments = record d { phases = all_phases d; open_phase = Some (empty_phase s.ports) }
 draft_after s d Line arguments = d

@@ -4,6 +4,8 @@ use Rattle.std.specs.Prelude.{drop, length, Option, None, Some, is_some, codes, 
 use Rattle.std.specs.Str.{bytes_eq}
 use Rattle.std.specs.List.{filter_map}
 use Rattle.std.specs.Option.{option_or}
+use Rattle.tty_base.specs.Sizes.{LAST_HANDLE, LEAST_FLIP, MOST_ARRIVALS, MOST_ASKED, MOST_FLIP, MOST_IDLE, MOST_PORTS}
+use Rattle.tty_base.specs.Sizes.{MOST_TICKS}
 use Rattle.tty_modes.specs.declared.words.Word.{Word}
 use Rattle.tty_modes.specs.Reading.{word_of as mode_of}
 use Rattle.tty_calls.specs.declared.calls.Access.{Access}
@@ -24,8 +26,8 @@ use Rattle.session_text.specs.declared.verbs.LineVerb.{LineVerb}
 use Rattle.session_text.specs.declared.verbs.LineVerb.TheVariants.{Rx, Rxp, Rxf, Break, Mask, Unmask, Idle, Trigger}
 use Rattle.session_text.specs.declared.verbs.CallVerb.{CallVerb}
 use Rattle.session_text.specs.declared.verbs.CallVerb.TheVariants as call
-use Rattle.session_text.specs.declared.kinds.Kind.{Kind}
-use Rattle.session_text.specs.declared.kinds.Kind.TheVariants as kind
+use Rattle.session_text.specs.declared.kinds.ArgumentKind.{ArgumentKind}
+use Rattle.session_text.specs.declared.kinds.ArgumentKind.TheVariants as kind
 
 -- ---- fixed words
 
@@ -106,41 +108,41 @@ may_have (Step verb) count = line_may_have verb count
 may_have (Call verb) count = call_may_have verb count
 
 -- Of a verb without arguments any kind may be said.
-abbrev pub line_kind : LineVerb → Kind
-line_kind Rx = kind.Hex 262144
-line_kind Rxp = kind.Hex 262144
-line_kind Rxf = kind.Hex 262144
+abbrev pub line_kind : LineVerb → ArgumentKind
+line_kind Rx = kind.Hex MOST_ARRIVALS
+line_kind Rxp = kind.Hex MOST_ARRIVALS
+line_kind Rxf = kind.Hex MOST_ARRIVALS
 line_kind Break = kind.Name
 line_kind Mask = kind.Name
 line_kind Unmask = kind.Name
-line_kind Idle = kind.Number 1 1000
+line_kind Idle = kind.Number 1 MOST_IDLE
 line_kind Trigger = kind.Trigger
 
 -- the kind of an argument after the handle
-abbrev pub call_kind : CallVerb → ℕ → Kind
+abbrev pub call_kind : CallVerb → ℕ → ArgumentKind
 call_kind call.Open place = if place == 1 then kind.Access else kind.Nonblock
-call_kind call.Read place = kind.Number 1 65536
-call_kind call.Write place = kind.Hex 65536
+call_kind call.Read place = kind.Number 1 MOST_ASKED
+call_kind call.Write place = kind.Hex MOST_ASKED
 call_kind call.SetModes place = if place == 1 then kind.When else kind.Mode
 call_kind call.SetDisc place = kind.Number 0 4294967295
 call_kind call.Flush place = kind.Queue
 call_kind call.Xonc place = kind.Act
-call_kind call.Send place = kind.Hex 65536
+call_kind call.Send place = kind.Hex MOST_ASKED
 call_kind verb place = kind.Name
 
 -- the kind of an item's argument at a place, counted from 0
-abbrev pub kind_at : Verb → ℕ → Kind
+abbrev pub kind_at : Verb → ℕ → ArgumentKind
 kind_at Session place = kind.Number 1 2
-kind_at Ports place = kind.Number 1 8
-kind_at Flip place = if place == 0 then kind.Port else kind.Number 64 65536
+kind_at Ports place = kind.Number 1 MOST_PORTS
+kind_at Flip place = if place == 0 then kind.Port else kind.Number LEAST_FLIP MOST_FLIP
 kind_at Phase place = kind.Name
 kind_at Line place = kind.Port
 kind_at Clock place = kind.Port
 kind_at Caller place = if place == 0 then kind.Name else kind.Port
-kind_at Tick place = kind.Number 1 65536
+kind_at Tick place = kind.Number 1 MOST_TICKS
 kind_at End place = kind.Name
 kind_at (Step verb) place = line_kind verb
-kind_at (Call verb) place = if place == 0 then kind.Number 0 31 else call_kind verb place
+kind_at (Call verb) place = if place == 0 then kind.Number 0 LAST_HANDLE else call_kind verb place
 
 -- ---- what is wrong with an argument
 
@@ -159,7 +161,7 @@ is_trigger number = ((number == 1 || number == 4) || number == 8) || number == 1
 abbrev pub hex_fault : List ℕ → ℕ → Option Reason
 hex_fault word most = if is_hex word then limit_fault (nat_le (length word / 2) most) else Some reason.Hex
 
-abbrev pub fault_of : ℕ → Kind → List ℕ → Option Reason
+abbrev pub fault_of : ℕ → ArgumentKind → List ℕ → Option Reason
 fault_of ports kind.Name word = word_fault (is_name word)
 fault_of ports kind.Port word = number_fault word (nat_lt (number_of word) ports)
 fault_of ports (kind.Number least most) word =

@@ -57,6 +57,6 @@ abbrev pub Fails : {Y : Type 0} → TextFault → Result Y BadLine → Type 0
 Fails (Bad line) read = read ≡ Err line
 Fails NoMemory read = Unit {0}
 
-abbrev pub Gives : {X Y : Type 0} → (X → Y) → Result X TextFault → Result Y BadLine → Type 0
-Gives view (Ok x) read = read ≡ Ok (view x)
-Gives view (Err fault) read = Fails fault read
+abbrev pub GivesRead : {X Y : Type 0} → (X → Y) → Result X TextFault → Result Y BadLine → Type 0
+GivesRead view (Ok x) read = read ≡ Ok (view x)
+GivesRead view (Err fault) read = Fails fault read

@@ -1,10 +1,12 @@
 -- Where the reader stands, and what it says of a line there.
-use Rattle.std.specs.Prelude.{ℕ, ◌-◌, ◌/◌, ◌==◌, ◌&&◌, ◌||◌, nat_le, nat_lt, Bool, true, false, List}
+use Rattle.std.specs.Prelude.{ℕ, ◌+◌, ◌-◌, ◌/◌, ◌==◌, ◌&&◌, ◌||◌, nat_le, nat_lt, Bool, true, false, List}
 use Rattle.std.specs.Prelude.{[], ◌∷◌, ◌++◌, length, replicate, count_by, slice_index, slice_set}
 use Rattle.std.specs.Prelude.{Option, None, Some, is_none, Result, Ok, Err, codes, if◌then◌else◌}
 use Rattle.std.specs.Str.{bytes_eq}
 use Rattle.std.specs.List.{list_any}
 use Rattle.std.specs.Option.{option_or}
+use Rattle.tty_base.specs.Sizes.{MOST_ARRIVALS, MOST_CALLERS, MOST_MODE_WORDS, MOST_PHASES, MOST_PORTS, MOST_STEPS}
+use Rattle.tty_base.specs.Sizes.{MOST_TICKS}
 use Rattle.text_lines.specs.Values.{word_at, number_at}
 use Rattle.session_text.specs.declared.faults.Reason.{Reason}
 use Rattle.session_text.specs.declared.faults.Reason.TheVariants as reason
@@ -15,8 +17,8 @@ use Rattle.session_text.specs.declared.verbs.LineVerb.{LineVerb}
 use Rattle.session_text.specs.declared.verbs.LineVerb.TheVariants.{Rx, Rxp, Rxf, Break}
 use Rattle.session_text.specs.declared.verbs.CallVerb.{CallVerb}
 use Rattle.session_text.specs.declared.verbs.CallVerb.TheVariants.{SetModes}
-use Rattle.session_text.specs.declared.stands.Place.{Place}
-use Rattle.session_text.specs.declared.stands.Place.TheVariants as place
+use Rattle.session_text.specs.declared.stands.ItemPlace.{ItemPlace}
+use Rattle.session_text.specs.declared.stands.ItemPlace.TheVariants as place
 use Rattle.session_text.specs.Verbs.{verb_of}
 use Rattle.session_text.specs.Kinds.{may_have, fault_from}
 
@@ -29,7 +31,7 @@ pub record PlainKey : Type 0 where
 -- their line block and their clock block; the open phase's callers; the port of the open block; and how
 -- many phases, steps, and for each port characters and ticks, may still come.
 pub record PlainStand : Type 0 where
-  pub place : Place
+  pub place : ItemPlace
   pub version : ℕ
   pub ports : ℕ
   pub flips : List ℕ
@@ -52,51 +54,51 @@ first_stand = record {
   clocks = [];
   callers = [];
   port = 0;
-  phases_left = 64;
-  steps_left = 65536;
-  characters_left = replicate 8 262144;
-  ticks_left = replicate 8 65536;
+  phases_left = MOST_PHASES;
+  steps_left = MOST_STEPS;
+  characters_left = replicate MOST_PORTS MOST_ARRIVALS;
+  ticks_left = replicate MOST_PORTS MOST_TICKS;
 }
 
 -- ---- the place
 
-abbrev pub is_start : Place → Bool
+abbrev pub is_start : ItemPlace → Bool
 is_start place.Start = true
 is_start other = false
 
-abbrev pub is_head : Place → Bool
+abbrev pub is_head : ItemPlace → Bool
 is_head place.Head = true
 is_head other = false
 
-abbrev pub is_before : Place → Bool
+abbrev pub is_before : ItemPlace → Bool
 is_before place.Before = true
 is_before other = false
 
-abbrev pub is_line : Place → Bool
+abbrev pub is_line : ItemPlace → Bool
 is_line place.Line = true
 is_line other = false
 
-abbrev pub is_clock : Place → Bool
+abbrev pub is_clock : ItemPlace → Bool
 is_clock place.Clock = true
 is_clock other = false
 
-abbrev pub is_caller : Place → Bool
+abbrev pub is_caller : ItemPlace → Bool
 is_caller place.Caller = true
 is_caller other = false
 
-abbrev pub is_ended : Place → Bool
+abbrev pub is_ended : ItemPlace → Bool
 is_ended place.Ended = true
 is_ended other = false
 
 -- in a phase, in a block or before the first
-abbrev pub in_phase : Place → Bool
+abbrev pub in_phase : ItemPlace → Bool
 in_phase place.Phase = true
 in_phase place.Line = true
 in_phase place.Clock = true
 in_phase place.Caller = true
 in_phase other = false
 
-abbrev pub may_stand : Verb → Place → Bool
+abbrev pub may_stand : Verb → ItemPlace → Bool
 may_stand Session at = false
 may_stand Ports at = is_head at
 may_stand Flip at = is_before at
@@ -137,14 +139,14 @@ arrivals Rxf arguments = length (word_at arguments 0) / 2
 arrivals Break arguments = 1
 arrivals verb arguments = 0
 
--- whether these are the arguments of more than 64 mode words
+-- whether these are the arguments of too many mode words, behind a handle and a time
 abbrev pub has_many : CallVerb → ℕ → Bool
-has_many SetModes count = nat_lt 66 count
+has_many SetModes count = nat_lt (MOST_MODE_WORDS + 2) count
 has_many verb count = false
 
 abbrev pub is_over : PlainStand → Verb → List (List ℕ) → Bool
 is_over s Phase arguments = s.phases_left == 0
-is_over s Caller arguments = nat_le 16 (callers_on (number_at arguments 1) s.callers)
+is_over s Caller arguments = nat_le MOST_CALLERS (callers_on (number_at arguments 1) s.callers)
 is_over s (Step verb) arguments =
     s.steps_left == 0 || nat_lt (slice_index s.characters_left s.port) (arrivals verb arguments)
 is_over s Tick arguments = s.steps_left == 0 || nat_lt (slice_index s.ticks_left s.port) (number_at arguments 0)
@@ -184,7 +186,7 @@ abbrev pub first_verdict : PlainStand → List ℕ → List (List ℕ) → Resul
 first_verdict s word arguments =
     if bytes_eq word (codes "tty-session") && is_good s.ports Session arguments then Ok Session else Err reason.Header
 
-abbrev pub verdict_at : PlainStand → Place → List ℕ → List (List ℕ) → Result Verb Reason
+abbrev pub verdict_at : PlainStand → ItemPlace → List ℕ → List (List ℕ) → Result Verb Reason
 verdict_at s place.Start word arguments = first_verdict s word arguments
 verdict_at s other word arguments = verb_verdict s (verb_of s.version word) arguments
 

@@ -81,9 +81,6 @@ block_verb_of word = choice_of verb_text block_verbs word
 abbrev pub line_verb_of : List ℕ → Option LineVerb
 line_verb_of word = choice_of line_text line_verbs word
 
-abbrev pub rarer_call_verb_of : List ℕ → Option CallVerb
-rarer_call_verb_of word = choice_of call_text rarer_call_verbs word
-
 abbrev pub call_verb_of : List ℕ → Option CallVerb
 call_verb_of word = choice_of call_text call_verbs word
 

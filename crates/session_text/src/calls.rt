@@ -1,6 +1,6 @@
 //! What a line's items and calls mean: the steps of an item, and the call that a verb and its arguments are.
 
-ghost use Rattle.std.specs.Prelude.{◌≡◌, [], ◌∷◌, ◌++◌, ◌+◌, ◌≤◌, ◌<◌, IfOk, OnOk, IsTrue, length, map, take, drop};
+ghost use Rattle.std.specs.Prelude.{◌≡◌, [], ◌++◌, ◌+◌, ◌≤◌, ◌<◌, IfOk, OnOk, IsTrue, length};
 ghost use Rattle.std.specs.List.{filter_map};
 ghost use Rattle.tty_modes.specs.Reading.{word_of as mode_in};
 ghost use Rattle.tty_calls.specs.Plain.{call_of as call_view};
@@ -8,7 +8,7 @@ ghost use Rattle.text_lines.specs.Lines.{words_of};
 ghost use Rattle.text_lines.specs.Values.{is_hex, is_number, number_at, word_at};
 ghost use Rattle.session_text.specs.Kinds.{modes_in};
 ghost use Rattle.session_text.specs.Stands.{is_good};
-ghost use Rattle.session_text.specs.Meaning.{characters, steps_in, bare_call, call_on};
+ghost use Rattle.session_text.specs.Meaning.{characters, steps_in, bare_call};
 ghost use Rattle.session_text.specs.Meaning.{call_in, hands_over, bytes_handed};
 
 use super::verbs::{CallVerb, LineVerb, Verb};

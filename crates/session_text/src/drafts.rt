@@ -2,6 +2,7 @@
 
 ghost use Rattle.std.specs.Prelude.{◌≡◌, ◌<◌, ◌+◌, ◌∷◌, ◌++◌, [], Some, IfOk, OnOk, IsTrue};
 ghost use Rattle.std.specs.Prelude.{map, replicate, slice_index, slice_index_or, slice_set};
+ghost use Rattle.tty_base.specs.Sizes.{DEFAULT_FLIP};
 ghost use Rattle.tty_calls.specs.Plain.{call_of as call_view};
 ghost use Rattle.tty_calls.specs.Sessions.{session_of as session_view, phase_of, script_of};
 ghost use Rattle.text_lines.specs.Values.{word_at, number_at};
@@ -19,11 +20,10 @@ use line_steps::LineSteps;
 use std::alloc::Global;
 use std::mem;
 use text_lines::{Arguments, bytes_into, name_of};
+use tty_base::sizes::DEFAULT_FLIP;
 use tty_base::{Buffer, NoMemory};
 use tty_calls::{Call, Calls, Phase, Script, Session};
 use tty_modes::Word;
-
-const FLIP: u32 = 4_096;
 
 /// The phase that is being read.
 #[derive(Drop)]
@@ -88,9 +88,10 @@ impl Draft {
     }
 
     fn set_ports(&mut self, alloc: Global, ports: u64) -> Result<(), NoMemory>
-        ensures { OnOk result (draft_of self.new ≡ record (draft_of self.old) { flips = replicate ports 4096 }) }
+        ensures { OnOk result
+            (draft_of self.new ≡ record (draft_of self.old) { flips = replicate ports DEFAULT_FLIP }) }
     {
-        self.flips = vec![in alloc; FLIP; ports as usize]?;
+        self.flips = vec![in alloc; DEFAULT_FLIP; ports as usize]?;
         Ok(())
     }
 

@@ -1,6 +1,6 @@
 //! How many arguments an item may have, of which kind each is, and what is wrong with the first that is wrong.
 
-ghost use Rattle.std.specs.Prelude.{◌≡◌, ◌/◌, nat_le, is_some, drop, length};
+ghost use Rattle.std.specs.Prelude.{◌≡◌, ◌/◌, is_some, drop, length};
 ghost use Rattle.text_lines.specs.Lines.{words_of};
 ghost use Rattle.text_lines.specs.Values.{word_at};
 ghost use Rattle.session_text.specs.Kinds.{modes_in, may_have, line_may_have, call_may_have};
@@ -11,10 +11,14 @@ use super::faults::Reason;
 use super::verbs::{CallVerb, LineVerb, Verb};
 use super::words::{access_of, act_of, is_mode, is_nonblock, queue_of, when_of};
 use text_lines::{Arguments, is_hex, is_name, read_number, split_word};
+use tty_base::sizes::{
+    LAST_HANDLE, LEAST_FLIP, MOST_ARRIVALS, MOST_ASKED, MOST_FLIP, MOST_IDLE, MOST_PORTS,
+    MOST_TICKS,
+};
 
 /// What an argument may be.
 #[derive(Clone, Copy)]
-pub(crate) enum Kind {
+pub(crate) enum ArgumentKind {
     Name,
     /// A number below the number of ports.
     Port,
@@ -70,67 +74,77 @@ fn call_may_have(verb: CallVerb, count: usize) -> bool
 /// The kind of an item's argument at a place, counted from 0. Of an item without arguments any kind
 /// may be said.
 #[inline(always)]
-pub(crate) fn kind_at(verb: Verb, place: usize) -> Kind
+pub(crate) fn kind_at(verb: Verb, place: usize) -> ArgumentKind
     ensures { result ≡ kind_at verb place }
 {
     match verb {
-        Verb::Phase | Verb::End => Kind::Name,
-        Verb::Session => Kind::Number { least: 1, most: 2 },
-        Verb::Ports => Kind::Number { least: 1, most: 8 },
-        Verb::Flip if place == 0 => Kind::Port,
-        Verb::Flip => Kind::Number {
-            least: 64,
-            most: 65_536,
-        },
-        Verb::Line | Verb::Clock => Kind::Port,
-        Verb::Caller if place == 0 => Kind::Name,
-        Verb::Caller => Kind::Port,
-        Verb::Tick => Kind::Number {
+        Verb::Phase | Verb::End => ArgumentKind::Name,
+        Verb::Session => ArgumentKind::Number { least: 1, most: 2 },
+        Verb::Ports => ArgumentKind::Number {
             least: 1,
-            most: 65_536,
+            most: MOST_PORTS as u64,
+        },
+        Verb::Flip if place == 0 => ArgumentKind::Port,
+        Verb::Flip => ArgumentKind::Number {
+            least: LEAST_FLIP as u64,
+            most: MOST_FLIP as u64,
+        },
+        Verb::Line | Verb::Clock => ArgumentKind::Port,
+        Verb::Caller if place == 0 => ArgumentKind::Name,
+        Verb::Caller => ArgumentKind::Port,
+        Verb::Tick => ArgumentKind::Number {
+            least: 1,
+            most: MOST_TICKS as u64,
         },
         Verb::Step(verb) => line_kind(verb),
-        Verb::Call(_) if place == 0 => Kind::Number { least: 0, most: 31 },
+        Verb::Call(_) if place == 0 => ArgumentKind::Number {
+            least: 0,
+            most: LAST_HANDLE as u64,
+        },
         Verb::Call(verb) => call_kind(verb, place),
     }
 }
 
-fn line_kind(verb: LineVerb) -> Kind
+fn line_kind(verb: LineVerb) -> ArgumentKind
     ensures { result ≡ line_kind verb }
 {
     match verb {
-        LineVerb::Rx | LineVerb::Rxp | LineVerb::Rxf => Kind::Hex { most: 262_144 },
-        LineVerb::Break | LineVerb::Mask | LineVerb::Unmask => Kind::Name,
-        LineVerb::Idle => Kind::Number {
-            least: 1,
-            most: 1_000,
+        LineVerb::Rx | LineVerb::Rxp | LineVerb::Rxf => ArgumentKind::Hex {
+            most: MOST_ARRIVALS as u64,
         },
-        LineVerb::Trigger => Kind::Trigger,
+        LineVerb::Break | LineVerb::Mask | LineVerb::Unmask => ArgumentKind::Name,
+        LineVerb::Idle => ArgumentKind::Number {
+            least: 1,
+            most: MOST_IDLE as u64,
+        },
+        LineVerb::Trigger => ArgumentKind::Trigger,
     }
 }
 
 /// The kind of an argument after the handle.
 #[inline(always)]
-fn call_kind(verb: CallVerb, place: usize) -> Kind
+fn call_kind(verb: CallVerb, place: usize) -> ArgumentKind
     ensures { result ≡ call_kind verb place }
 {
     match verb {
-        CallVerb::Open if place == 1 => Kind::Access,
-        CallVerb::Open => Kind::Nonblock,
-        CallVerb::Read => Kind::Number {
+        CallVerb::Open if place == 1 => ArgumentKind::Access,
+        CallVerb::Open => ArgumentKind::Nonblock,
+        CallVerb::Read => ArgumentKind::Number {
             least: 1,
-            most: 65_536,
+            most: MOST_ASKED as u64,
         },
-        CallVerb::Write | CallVerb::Send => Kind::Hex { most: 65_536 },
-        CallVerb::SetModes if place == 1 => Kind::When,
-        CallVerb::SetModes => Kind::Mode,
-        CallVerb::SetDisc => Kind::Number {
+        CallVerb::Write | CallVerb::Send => ArgumentKind::Hex {
+            most: MOST_ASKED as u64,
+        },
+        CallVerb::SetModes if place == 1 => ArgumentKind::When,
+        CallVerb::SetModes => ArgumentKind::Mode,
+        CallVerb::SetDisc => ArgumentKind::Number {
             least: 0,
             most: 4_294_967_295,
         },
-        CallVerb::Flush => Kind::Queue,
-        CallVerb::Xonc => Kind::Act,
-        _ => Kind::Name,
+        CallVerb::Flush => ArgumentKind::Queue,
+        CallVerb::Xonc => ArgumentKind::Act,
+        _ => ArgumentKind::Name,
     }
 }
 
@@ -209,11 +223,11 @@ fn fault_behind(ports: u8, verb: Verb, line: &[u8]) -> Option<Reason>
 
 /// What is wrong with the first argument, if something is. Its number was read before.
 #[inline(always)]
-fn first_fault(ports: u8, kind: Kind, arguments: &Arguments) -> Option<Reason>
+fn first_fault(ports: u8, kind: ArgumentKind, arguments: &Arguments) -> Option<Reason>
     ensures { result ≡ fault_of ports kind (word_at arguments.now 0) }
 {
     match kind {
-        Kind::Number { least, most } => match arguments.first_read() {
+        ArgumentKind::Number { least, most } => match arguments.first_read() {
             None => Some(Reason::Number),
             Some(number) => limit_fault(least <= number && number <= most),
         },
@@ -222,21 +236,21 @@ fn first_fault(ports: u8, kind: Kind, arguments: &Arguments) -> Option<Reason>
 }
 
 #[inline(always)]
-fn fault_of(ports: u8, kind: Kind, word: &[u8]) -> Option<Reason>
+fn fault_of(ports: u8, kind: ArgumentKind, word: &[u8]) -> Option<Reason>
     ensures { result ≡ fault_of ports kind word.now }
 {
     match kind {
-        Kind::Name => word_fault(is_name(word)),
-        Kind::Port => port_fault(ports, word),
-        Kind::Number { least, most } => range_fault(least, most, word),
-        Kind::Trigger => trigger_fault(word),
-        Kind::Hex { most } => hex_fault(word, most),
-        Kind::Access => word_fault(access_of(word).is_some()),
-        Kind::Nonblock => word_fault(is_nonblock(word)),
-        Kind::When => word_fault(when_of(word).is_some()),
-        Kind::Queue => word_fault(queue_of(word).is_some()),
-        Kind::Act => word_fault(act_of(word).is_some()),
-        Kind::Mode => word_fault(is_mode(word)),
+        ArgumentKind::Name => word_fault(is_name(word)),
+        ArgumentKind::Port => port_fault(ports, word),
+        ArgumentKind::Number { least, most } => range_fault(least, most, word),
+        ArgumentKind::Trigger => trigger_fault(word),
+        ArgumentKind::Hex { most } => hex_fault(word, most),
+        ArgumentKind::Access => word_fault(access_of(word).is_some()),
+        ArgumentKind::Nonblock => word_fault(is_nonblock(word)),
+        ArgumentKind::When => word_fault(when_of(word).is_some()),
+        ArgumentKind::Queue => word_fault(queue_of(word).is_some()),
+        ArgumentKind::Act => word_fault(act_of(word).is_some()),
+        ArgumentKind::Mode => word_fault(is_mode(word)),
     }
 }
 
@@ -253,7 +267,7 @@ fn limit_fault(fits: bool) -> Option<Reason>
 }
 
 fn port_fault(ports: u8, word: &[u8]) -> Option<Reason>
-    ensures { result ≡ fault_of ports Kind.Port word.now }
+    ensures { result ≡ fault_of ports ArgumentKind.Port word.now }
 {
     match read_number(word) {
         None => Some(Reason::Number),
@@ -262,7 +276,7 @@ fn port_fault(ports: u8, word: &[u8]) -> Option<Reason>
 }
 
 fn range_fault(least: u64, most: u64, word: &[u8]) -> Option<Reason>
-    ensures { result ≡ fault_of 0 (Kind.Number least most) word.now }
+    ensures { result ≡ fault_of 0 (ArgumentKind.Number least most) word.now }
 {
     match read_number(word) {
         None => Some(Reason::Number),
@@ -271,7 +285,7 @@ fn range_fault(least: u64, most: u64, word: &[u8]) -> Option<Reason>
 }
 
 fn trigger_fault(word: &[u8]) -> Option<Reason>
-    ensures { result ≡ fault_of 0 Kind.Trigger word.now }
+    ensures { result ≡ fault_of 0 ArgumentKind.Trigger word.now }
 {
     match read_number(word) {
         None => Some(Reason::Number),

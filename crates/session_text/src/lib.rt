@@ -23,5 +23,5 @@ pub use laws::{
     worked_texts_are_refused_at_their_lines, worked_texts_spell_their_sessions,
 };
 pub use reader::{Reader, parse, parse_front};
-pub use stands::Place;
+pub use stands::ItemPlace;
 pub use verbs::{CallVerb, LineVerb, Verb, is_call};

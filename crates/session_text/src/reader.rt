@@ -7,7 +7,7 @@ ghost use Rattle.session_text.specs.Refusals.{refusal, lines_in};
 ghost use Rattle.session_text.specs.Grammar.{Spells};
 ghost use Rattle.tty_calls.specs.Sessions.{session_of as session_view};
 ghost use Rattle.text_lines.specs.Lines.{words_of};
-ghost use Rattle.session_text.specs.Reading.{Gives, first_reading, reading_with, reading_after_line};
+ghost use Rattle.session_text.specs.Reading.{GivesRead, first_reading, reading_with, reading_after_line};
 ghost use Rattle.session_text.specs.Reading.{reading_after_item, session_at_end, session_from, session_in};
 ghost use Rattle.session_text.specs.Stands.{verdict_on, is_start, in_phase, is_ended, is_good};
 ghost use Rattle.session_text.specs.Views.{stand_of, reading_of, reading_at};
@@ -15,7 +15,7 @@ ghost use Rattle.session_text.specs.Views.{stand_of, reading_of, reading_at};
 use super::calls::{modes_into, no_modes};
 use super::drafts::Draft;
 use super::faults::{BadLine, Reason, TextFault};
-use super::stands::{Place, Stand, in_phase};
+use super::stands::{ItemPlace, Stand, in_phase};
 use super::verbs::Verb;
 use std::alloc::Global;
 use text_lines::{Arguments, FirstTwo, is_comment, split_line, split_word};
@@ -46,7 +46,7 @@ impl Reader {
 
     /// Reads the line with this number.
     pub fn read_line(&mut self, alloc: Global, number: u32, line: &[u8]) -> Result<(), TextFault>
-        ensures { Gives (λ _. reading_of self.new) result
+        ensures { GivesRead (λ _. reading_of self.new) result
             (reading_after_line (reading_of self.old) number (words_of line.now)) }
     {
         match split_word(line) {
@@ -69,7 +69,7 @@ impl Reader {
         word: &[u8],
         arguments: &FirstTwo,
     ) -> Result<(), TextFault>
-        ensures { Gives (λ _. reading_of self.new) result
+        ensures { GivesRead (λ _. reading_of self.new) result
             (reading_after_item (reading_of self.old) number arguments.now
             (verdict_on (stand_of self.old.stand) word.now arguments.now)) }
     {
@@ -92,7 +92,7 @@ impl Reader {
         arguments: &FirstTwo,
     ) -> Result<(), TextFault>
         requires { 2 < length arguments.now }
-        ensures { Gives (λ _. reading_of self.new) result
+        ensures { GivesRead (λ _. reading_of self.new) result
             (reading_after_item (reading_of self.old) number arguments.now
             (verdict_on (stand_of self.old.stand) word.now arguments.now)) }
     {
@@ -107,7 +107,7 @@ impl Reader {
     pub fn is_at_start(&self) -> bool
         ensures { result ≡ is_start self.now.stand.place }
     {
-        matches!(self.stand.place(), Place::Start)
+        matches!(self.stand.place(), ItemPlace::Start)
     }
 
     /// Whether a phase is open.
@@ -121,19 +121,19 @@ impl Reader {
     pub fn is_ended(&self) -> bool
         ensures { result ≡ is_ended self.now.stand.place }
     {
-        matches!(self.stand.place(), Place::Ended)
+        matches!(self.stand.place(), ItemPlace::Ended)
     }
 
     /// The session, where the text ends before the line with this number.
     pub fn finish(mut self, number: u32) -> Result<Session, TextFault>
-        ensures { Gives session_view result (session_at_end (reading_of self) number) }
+        ensures { GivesRead session_view result (session_at_end (reading_of self) number) }
     {
         self.end(number)
     }
 
     /// Takes the session out, where the text ends before the line with this number.
     fn end(&mut self, number: u32) -> Result<Session, TextFault>
-        ensures { Gives session_view result (session_at_end (reading_of self.old) number) }
+        ensures { GivesRead session_view result (session_at_end (reading_of self.old) number) }
     {
         if !self.is_ended() {
             return Err(TextFault::Bad(BadLine {
@@ -146,7 +146,7 @@ impl Reader {
 
     /// Reads a text from its first line on.
     fn read_lines(&mut self, alloc: Global, text: &[u8]) -> Result<Session, TextFault>
-        ensures { Gives session_view result (session_from (reading_of self.old) 1 (lines_in text.now)) }
+        ensures { GivesRead session_view result (session_from (reading_of self.old) 1 (lines_in text.now)) }
     {
         let mut rest = text;
         let mut number = 1u32;
@@ -164,7 +164,7 @@ impl Reader {
         alloc: Global,
         text: &'a [u8],
     ) -> Result<(Session, u32, &'a [u8]), TextFault>
-        ensures { Gives
+        ensures { GivesRead
             (λ front. record { session = session_view front.0; line = front.1; rest = lines_in front.2.now }) result
             (front_from (reading_of self.old) 1 (lines_in text.now)) }
     {
@@ -202,7 +202,7 @@ fn read_by(
     modes: &[Word],
 ) -> Result<(), TextFault>
     requires { modes.now ≡ modes_in arguments.now }
-    ensures { Gives (λ _. reading_at stand.new draft.new) result
+    ensures { GivesRead (λ _. reading_at stand.new draft.new) result
         (reading_after_item (reading_at stand.old draft.old) number arguments.now
         (verdict_on (stand_of stand.old) word.now arguments.now)) }
 {
@@ -285,7 +285,7 @@ pub fn parse(alloc: Global, text: &[u8]) -> Result<Session, TextFault>
 }
 
 fn read_session(alloc: Global, text: &[u8]) -> Result<Session, TextFault>
-    ensures { Gives session_view result (session_in text.now) }
+    ensures { GivesRead session_view result (session_in text.now) }
 {
     let mut reader = Reader::new(alloc);
     reader.read_lines(alloc, text)
@@ -294,7 +294,7 @@ fn read_session(alloc: Global, text: &[u8]) -> Result<Session, TextFault>
 /// The session that the front of a text spells, up to its `end`; the number of the line after that, and
 /// what follows.
 pub fn parse_front(alloc: Global, text: &[u8]) -> Result<(Session, u32, &[u8]), TextFault>
-    ensures { Gives (λ front. record { session = session_view front.0; line = front.1; rest = lines_in front.2.now })
+    ensures { GivesRead (λ front. record { session = session_view front.0; line = front.1; rest = lines_in front.2.now })
         result (front_in text.now) }
 {
     let mut reader = Reader::new(alloc);

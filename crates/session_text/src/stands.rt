@@ -1,6 +1,6 @@
 //! Where the reader of a text stands, how the next item is judged there, and where the reader stands after it.
 
-ghost use Rattle.std.specs.Prelude.{◌≡◌, ◌-◌, ◌∷◌, ◌++◌, [], Some, OnOk, IsTrue, map, slice_set, slice_index, length};
+ghost use Rattle.std.specs.Prelude.{◌≡◌, ◌-◌, ◌∷◌, ◌++◌, [], Some, OnOk, IsTrue, map, slice_index, length};
 ghost use Rattle.std.specs.List.{list_any};
 ghost use Rattle.session_text.specs.Kinds.{modes_in};
 ghost use Rattle.session_text.specs.Stands.{first_stand, may_stand, in_phase, holds, same_key, has_stood, callers_on};
@@ -14,22 +14,18 @@ use super::verbs::{CallVerb, LineVerb, Verb, verb_of};
 use arrayvec::ArrayString;
 use std::alloc::Global;
 use text_lines::{Arguments, name_of};
+use tty_base::sizes::{
+    MOST_ARRIVALS, MOST_CALLERS, MOST_MODE_WORDS, MOST_PHASES, MOST_PORTS, MOST_STEPS, MOST_TICKS,
+};
 use tty_base::{Buffer, NoMemory};
 use tty_modes::is_same;
 
-const PHASES: u64 = 64;
-
-const STEPS: u64 = 65_536;
-
-const CHARACTERS: u64 = 262_144;
-
-const TICKS: u64 = 65_536;
-
-const CALLERS: usize = 16;
+/// The most arguments of a `modes` item: a handle, a time and the mode words.
+const MOST_MODE_ARGUMENTS: usize = MOST_MODE_WORDS + 2;
 
 /// Which items may come next.
 #[derive(Clone, Copy)]
-pub enum Place {
+pub enum ItemPlace {
     /// Before the first item.
     Start,
     /// After the header.
@@ -58,7 +54,7 @@ pub(crate) struct Key {
 /// Where the reader of a text stands.
 #[derive(Drop)]
 pub(crate) struct Stand {
-    place: Place,
+    place: ItemPlace,
     version: u8,
     ports: u8,
     /// The ports that had their `flip`.
@@ -73,8 +69,8 @@ pub(crate) struct Stand {
     /// How many phases and steps may still come, and for each port characters and ticks.
     phases_left: u64,
     steps_left: u64,
-    characters_left: [u64; 8],
-    ticks_left: [u64; 8],
+    characters_left: [u64; MOST_PORTS],
+    ticks_left: [u64; MOST_PORTS],
 }
 
 impl Stand {
@@ -83,7 +79,7 @@ impl Stand {
         ensures { stand_of result ≡ first_stand }
     {
         Stand {
-            place: Place::Start,
+            place: ItemPlace::Start,
             version: 0,
             ports: 0,
             flips: Buffer::new(alloc),
@@ -91,14 +87,14 @@ impl Stand {
             clocks: Buffer::new(alloc),
             callers: Buffer::new(alloc),
             port: 0,
-            phases_left: PHASES,
-            steps_left: STEPS,
-            characters_left: [CHARACTERS; 8],
-            ticks_left: [TICKS; 8],
+            phases_left: MOST_PHASES as u64,
+            steps_left: MOST_STEPS as u64,
+            characters_left: [MOST_ARRIVALS as u64; MOST_PORTS],
+            ticks_left: [MOST_TICKS as u64; MOST_PORTS],
         }
     }
 
-    pub(crate) fn place(&self) -> Place
+    pub(crate) fn place(&self) -> ItemPlace
         ensures { result ≡ self.now.place }
     {
         self.place
@@ -135,7 +131,7 @@ impl Stand {
         requires { modes ≡ length (modes_in arguments.now) }
         ensures { result ≡ verdict_on (stand_of self.now) word.now arguments.now }
     {
-        if matches!(self.place, Place::Start) {
+        if matches!(self.place, ItemPlace::Start) {
             return self.judge_first(word, arguments, modes);
         }
         match verb_of(self.version, word) {
@@ -246,7 +242,7 @@ impl Stand {
         match verb {
             Verb::Phase => self.phases_left == 0,
             Verb::Caller => {
-                callers_on(arguments.second_number(), self.callers.as_slice()) >= CALLERS
+                callers_on(arguments.second_number(), self.callers.as_slice()) >= MOST_CALLERS
             }
             Verb::Step(step) => {
                 self.steps_left == 0
@@ -275,12 +271,12 @@ impl Stand {
         match verb {
             Verb::Session => {
                 self.version = arguments.first_number() as u8;
-                self.place = Place::Head;
+                self.place = ItemPlace::Head;
                 Ok(())
             }
             Verb::Ports => {
                 self.ports = arguments.first_number() as u8;
-                self.place = Place::Before;
+                self.place = ItemPlace::Before;
                 Ok(())
             }
             Verb::Flip => add_port(&mut self.flips, arguments.first_number()),
@@ -304,7 +300,7 @@ impl Stand {
                 Ok(())
             }
             Verb::End => {
-                self.place = Place::Ended;
+                self.place = ItemPlace::Ended;
                 Ok(())
             }
         }
@@ -313,7 +309,7 @@ impl Stand {
     fn open_phase(&mut self, alloc: Global)
         ensures { stand_of self.new ≡ stand_after (stand_of self.old) Verb.Phase [] }
     {
-        self.place = Place::Phase;
+        self.place = ItemPlace::Phase;
         self.lines = Buffer::new(alloc);
         self.clocks = Buffer::new(alloc);
         self.callers = Buffer::new(alloc);
@@ -323,13 +319,13 @@ impl Stand {
     fn open_line(&mut self, port: u64) -> Result<(), NoMemory>
         ensures { OnOk result (stand_of self.new
             ≡ record (stand_of self.old) {
-              place = Place.Line;
+              place = ItemPlace.Line;
               lines = (stand_of self.old).lines ++ port ∷ [];
               port = port;
             }) }
     {
         add_port(&mut self.lines, port)?;
-        self.place = Place::Line;
+        self.place = ItemPlace::Line;
         self.port = port;
         Ok(())
     }
@@ -337,13 +333,13 @@ impl Stand {
     fn open_clock(&mut self, port: u64) -> Result<(), NoMemory>
         ensures { OnOk result (stand_of self.new
             ≡ record (stand_of self.old) {
-              place = Place.Clock;
+              place = ItemPlace.Clock;
               clocks = (stand_of self.old).clocks ++ port ∷ [];
               port = port;
             }) }
     {
         add_port(&mut self.clocks, port)?;
-        self.place = Place::Clock;
+        self.place = ItemPlace::Clock;
         self.port = port;
         Ok(())
     }
@@ -356,7 +352,7 @@ impl Stand {
         let name = name_of(arguments.first());
         self.callers.reserve(1)?;
         self.callers.add(Key { name, port });
-        self.place = Place::Caller;
+        self.place = ItemPlace::Caller;
         self.port = port;
         Ok(())
     }
@@ -393,27 +389,27 @@ fn is_good(ports: u8, verb: Verb, arguments: &Arguments, modes: usize) -> bool
 
 /// Whether an item may stand at a place. The header stands before the first place alone.
 #[inline(always)]
-fn may_stand(verb: Verb, place: Place) -> bool
+fn may_stand(verb: Verb, place: ItemPlace) -> bool
     ensures { result ≡ may_stand verb place }
 {
     match verb {
         Verb::Session => false,
-        Verb::Ports => matches!(place, Place::Head),
-        Verb::Flip => matches!(place, Place::Before),
-        Verb::Phase | Verb::End => matches!(place, Place::Before) || in_phase(place),
+        Verb::Ports => matches!(place, ItemPlace::Head),
+        Verb::Flip => matches!(place, ItemPlace::Before),
+        Verb::Phase | Verb::End => matches!(place, ItemPlace::Before) || in_phase(place),
         Verb::Line | Verb::Clock | Verb::Caller => in_phase(place),
-        Verb::Tick => matches!(place, Place::Clock),
-        Verb::Step(_) => matches!(place, Place::Line),
-        Verb::Call(_) => matches!(place, Place::Caller),
+        Verb::Tick => matches!(place, ItemPlace::Clock),
+        Verb::Step(_) => matches!(place, ItemPlace::Line),
+        Verb::Call(_) => matches!(place, ItemPlace::Caller),
     }
 }
 
-pub(crate) fn in_phase(place: Place) -> bool
+pub(crate) fn in_phase(place: ItemPlace) -> bool
     ensures { result ≡ in_phase place }
 {
     matches!(
         place,
-        Place::Phase | Place::Line | Place::Clock | Place::Caller
+        ItemPlace::Phase | ItemPlace::Line | ItemPlace::Clock | ItemPlace::Caller
     )
 }
 
@@ -452,12 +448,12 @@ fn arrivals(verb: LineVerb, arguments: &Arguments) -> u64
     }
 }
 
-/// Whether these are the arguments of more than 64 mode words.
+/// Whether these are the arguments of too many mode words.
 fn has_many(verb: CallVerb, count: usize) -> bool
     ensures { result ≡ has_many verb count }
 {
     match verb {
-        CallVerb::SetModes => count > 66,
+        CallVerb::SetModes => count > MOST_MODE_ARGUMENTS,
         _ => false,
     }
 }

@@ -1,6 +1,6 @@
 //! The words that stand for an access, a time, a queue or an act, `nonblock`, and the mode words.
 
-ghost use Rattle.std.specs.Prelude.{◌≡◌, bytes_eq, is_some};
+ghost use Rattle.std.specs.Prelude.{◌≡◌, is_some};
 ghost use Rattle.tty_modes.specs.Reading.{word_of};
 ghost use Rattle.session_text.specs.Kinds.{access_of, when_of, queue_of, act_of, is_nonblock};
 

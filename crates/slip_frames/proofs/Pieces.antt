@@ -87,9 +87,6 @@ rest_going (d ∷ list) c e =
 
 -- ---- a packet that was sent
 
-unharmed : ℕ → Flagged
-unharmed b = record { byte = b; flag = Normal }
-
 -- the piece in which a packet is sent, and that it spells the packet
 stuffed_spells : (b : ℕ) (piece bytes : List ℕ) → Spells piece bytes → Spells (spelling_of_byte b ++ piece) (b ∷ bytes)
 stuffed_spells b piece bytes s =

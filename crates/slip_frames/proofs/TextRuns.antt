@@ -3,11 +3,11 @@ use Rattle.std.proofs.Common.{◌≡◌, ℕ, zero, suc, get_or, ◌+◌, ◌≤
 use Rattle.std.proofs.Common.{◌∷◌, ◌++◌, length, ap, sym, ◌∙◌, arith, append_assoc, ne_eqb, length-append, lt-ltb}
 use Rattle.std.proofs.lemmas.Bool.{cond-true, cond-false, true≢false}
 use Rattle.std.specs.List.{AllByRecursion}
-use Rattle.char_lanes.specs.Runs.{IsIn}
+use Rattle.char_lanes.specs.Runs.{IsInBounds}
 use Rattle.tty_base.specs.declared.characters.Flagged.{Flagged}
 use Rattle.slip_frames.specs.Slip.{end, esc, is_normal, is_end, bytes_of}
-use Rattle.slip_frames.specs.declared.receiving.Piece.{Piece}
-use Rattle.slip_frames.specs.declared.receiving.Piece.TheVariants.{Plain, Escaped, Spoilt, Ended}
+use Rattle.slip_frames.specs.declared.receiving.Parse.{Parse}
+use Rattle.slip_frames.specs.declared.receiving.Parse.TheVariants.{Plain, Escaped, Spoilt, Ended}
 use Rattle.slip_frames.specs.Inside.{decoding_by}
 use Rattle.slip_frames.specs.Decoding.{Decoding, BegunPiece, spelling, bad_piece, packet_in, with_byte}
 use Rattle.slip_frames.specs.Decoding.{decoding_after_character, decoding_after_characters, IsText}
@@ -50,7 +50,7 @@ ends_escaped bad_piece = true
 ends_escaped (spelling text escaped) = escaped
 
 -- where a plain piece stands with no packet, its bytes are kept
-kept_text : (piece : Piece) (bytes text : List ℕ)
+kept_text : (piece : Parse) (bytes text : List ℕ)
     → decoding_by piece bytes ≡ record { piece = spelling text false; packet = [] }
     → bytes ≡ text
 kept_text Plain bytes text is = ap (λ (d : Decoding). packet_in d.piece) is
@@ -58,7 +58,7 @@ kept_text Escaped bytes text is = absurd (true≢false (ap (λ (d : Decoding). e
 kept_text Spoilt bytes text is = absurd (true≢false (ap (λ (d : Decoding). ends_escaped d.piece) is))
 kept_text Ended bytes text is = ap (λ (d : Decoding). d.packet) is ∙ ap (λ (d : Decoding). packet_in d.piece) is
 
-pub fed_run : (d d' : Decoding) (piece : Piece) (bytes later text packet : List ℕ) (cs : List Flagged)
+pub fed_run : (d d' : Decoding) (piece : Parse) (bytes later text packet : List ℕ) (cs : List Flagged)
     → d ≡ record { piece = spelling text false; packet = packet }
     → decoding_by piece bytes ≡ d'
     → d' ≡ record d { packet = [] }
@@ -76,7 +76,7 @@ fed_run d d' piece bytes later text packet (c ∷ cs) before view forgotten kept
     ∙ ap (λ (e : Decoding). decoding_after_characters e (c ∷ cs)) (sym before)
 
 -- characters of a run stand for themselves
-pub are_text : (cs : List Flagged) → AllByRecursion (IsIn 0 255 (end ∷ esc ∷ [])) cs → AllByRecursion IsText cs
+pub are_text : (cs : List Flagged) → AllByRecursion (IsInBounds 0 255 (end ∷ esc ∷ [])) cs → AllByRecursion IsText cs
 are_text [] all = tt
 are_text (c ∷ cs) all =
     (record { good = all.0.good; inside = all.0.none.0; itself = all.0.none.1.0 }, are_text cs all.1)

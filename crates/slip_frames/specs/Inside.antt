@@ -1,12 +1,12 @@
 -- How a decoder keeps what it knows.
 use Rattle.std.specs.Prelude.{◌≤◌, List, ℕ, [], true, false, vec_len, vec_capacity}
 use Rattle.slip_frames.specs.Slip.{max_packet}
-use Rattle.slip_frames.specs.declared.receiving.Piece.{Piece}
-use Rattle.slip_frames.specs.declared.receiving.Piece.TheVariants.{Plain, Escaped, Spoilt, Ended}
+use Rattle.slip_frames.specs.declared.receiving.Parse.{Parse}
+use Rattle.slip_frames.specs.declared.receiving.Parse.TheVariants.{Plain, Escaped, Spoilt, Ended}
 use Rattle.slip_frames.specs.declared.receiving.Decoder.TheInside.{Inside}
 use Rattle.slip_frames.specs.Decoding.{bad_piece, spelling, Decoding}
 
-abbrev pub decoding_by : Piece → List ℕ → Decoding
+abbrev pub decoding_by : Parse → List ℕ → Decoding
 decoding_by Plain bytes = record { piece = spelling bytes false; packet = [] }
 decoding_by Escaped bytes = record { piece = spelling bytes true; packet = [] }
 decoding_by Spoilt bytes = record { piece = bad_piece; packet = [] }

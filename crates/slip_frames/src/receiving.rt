@@ -1,10 +1,10 @@
 //! Packets from the characters of a line.
 
-ghost use Rattle.std.specs.Prelude.{◌≡◌, ◌≤◌, ◌<◌, ◌+◌, ℕ, slice_index_or, false, IsTrue, ◌∷◌};
-ghost use Rattle.std.specs.Prelude.{◌++◌, ◌≢◌, [], List, length, take, IfOk, vec_len, vec_capacity};
+ghost use Rattle.std.specs.Prelude.{◌≡◌, ◌≤◌, ◌<◌, ◌+◌, slice_index_or, false, IsTrue, ◌∷◌};
+ghost use Rattle.std.specs.Prelude.{◌++◌, ◌≢◌, [], List, length, take, IfOk};
 ghost use Rattle.std.specs.List.{AllByRecursion};
-ghost use Rattle.char_lanes.specs.Runs.{IsIn};
-ghost use Rattle.slip_frames.specs.Slip.{byte_after_escape, bytes_of, outcomes, max_packet};
+ghost use Rattle.char_lanes.specs.Runs.{IsInBounds};
+ghost use Rattle.slip_frames.specs.Slip.{byte_after_escape, outcomes, max_packet};
 ghost use Rattle.slip_frames.specs.Decoding.{WasFed, outcomes_by_answer, answer_to, decoding_after_character};
 ghost use Rattle.slip_frames.specs.Decoding.{decoding_after_characters, IsText, new_decoding, spelling};
 ghost use Rattle.slip_frames.specs.Decoding.{bad_piece, with_byte, with_text_byte, answer_to_end, packet_in};
@@ -29,7 +29,7 @@ pub enum Fed {
 }
 
 #[derive(Clone, Copy, Debug, PartialEq, Eq)]
-enum Piece {
+enum Parse {
     /// A piece whose bytes are kept.
     Plain,
     /// A piece whose bytes are kept, and whose last character is an ESC.
@@ -46,11 +46,11 @@ enum Piece {
 #[derive(Drop)]
 pub struct Decoder {
     bytes: Vec<u8>,
-    piece: Piece,
+    piece: Parse,
 }
 
 impl Model for Decoder {
-    ghost use Rattle.std.specs.Prelude.{◌≤◌, vec_len, vec_capacity};
+    ghost use Rattle.std.specs.Prelude.{◌≤◌};
     ghost use Rattle.slip_frames.specs.Decoding.{Decoding};
 
     ghost Value = { Decoding };
@@ -70,7 +70,7 @@ impl Decoder {
     {
         Ok(Decoder {
             bytes: Vec::with_capacity(alloc, MAX_PACKET)?,
-            piece: Piece::Plain,
+            piece: Parse::Plain,
         })
     }
 
@@ -97,9 +97,9 @@ impl Decoder {
         ensures after { self.new ≡ decoding_after_characters self.old (take result chars.now) }
     {
         let room = match self.piece {
-            Piece::Plain => MAX_PACKET - self.bytes.len(),
-            Piece::Ended => MAX_PACKET,
-            Piece::Escaped | Piece::Spoilt => return 0,
+            Parse::Plain => MAX_PACKET - self.bytes.len(),
+            Parse::Ended => MAX_PACKET,
+            Parse::Escaped | Parse::Spoilt => return 0,
         };
         let chars = front_of(chars, chars.len().min(room));
         if !starts_with_text(chars) {
@@ -107,7 +107,7 @@ impl Decoder {
         }
         self.forget_packet();
         let count = push_run(&mut self.bytes, chars, 0, u8::MAX, [END, ESC].as_slice());
-        self.piece = Piece::Plain;
+        self.piece = Parse::Plain;
         count
     }
 
@@ -117,7 +117,7 @@ impl Decoder {
         ensures short { length result.now ≤ max_packet }
     {
         match self.piece {
-            Piece::Ended => self.bytes.as_slice(),
+            Parse::Ended => self.bytes.as_slice(),
             _ => &[],
         }
     }
@@ -130,7 +130,7 @@ impl Decoder {
         match c.flag {
             Flag::Normal if c.byte == END => return self.end_piece(),
             Flag::Normal => self.add_byte(c.byte),
-            Flag::Break | Flag::Parity | Flag::Frame | Flag::Overrun => self.piece = Piece::Spoilt,
+            Flag::Break | Flag::Parity | Flag::Frame | Flag::Overrun => self.piece = Parse::Spoilt,
         }
         Fed::Going
     }
@@ -138,9 +138,9 @@ impl Decoder {
     fn forget_packet(&mut self)
         ensures { self.new ≡ record self.old { packet = [] } }
     {
-        if matches!(self.piece, Piece::Ended) {
+        if matches!(self.piece, Parse::Ended) {
             self.bytes.clear();
-            self.piece = Piece::Plain;
+            self.piece = Parse::Plain;
         }
     }
 
@@ -149,12 +149,12 @@ impl Decoder {
         ensures result { result ≡ answer_to_end self.old.piece }
         ensures after { self.new ≡ record { piece = spelling [] false; packet = packet_in self.old.piece } }
     {
-        if matches!(self.piece, Piece::Spoilt) {
+        if matches!(self.piece, Parse::Spoilt) {
             self.bytes.clear();
-            self.piece = Piece::Plain;
+            self.piece = Parse::Plain;
             return Fed::Bad;
         }
-        self.piece = Piece::Ended;
+        self.piece = Parse::Ended;
         if self.bytes.is_empty() {
             Fed::Empty
         } else {
@@ -167,10 +167,10 @@ impl Decoder {
         ensures { self.new ≡ record { piece = with_byte self.old.piece b; packet = [] } }
     {
         match self.piece {
-            Piece::Spoilt => {}
-            Piece::Escaped => self.keep(byte_after_escape(b)),
-            Piece::Plain | Piece::Ended => match b {
-                ESC => self.piece = Piece::Escaped,
+            Parse::Spoilt => {}
+            Parse::Escaped => self.keep(byte_after_escape(b)),
+            Parse::Plain | Parse::Ended => match b {
+                ESC => self.piece = Parse::Escaped,
                 _ => self.keep(b),
             },
         }
@@ -183,9 +183,9 @@ impl Decoder {
     {
         if self.bytes.len() < MAX_PACKET {
             self.bytes.push_reserved(b);
-            self.piece = Piece::Plain;
+            self.piece = Parse::Plain;
         } else {
-            self.piece = Piece::Spoilt;
+            self.piece = Parse::Spoilt;
         }
     }
 }
@@ -203,7 +203,7 @@ fn byte_after_escape(b: u8) -> u8
 
 /// Whether a good character stands for itself within a piece.
 fn is_text(c: Flagged) -> bool
-    ensures { IsTrue result → IsIn 0 255 (END ∷ ESC ∷ []) c }
+    ensures { IsTrue result → IsInBounds 0 255 (END ∷ ESC ∷ []) c }
 {
     match c.flag {
         Flag::Normal => c.byte != END && c.byte != ESC,
@@ -215,7 +215,7 @@ fn is_text(c: Flagged) -> bool
 #[inline(always)]
 fn starts_with_text(chars: &[Flagged]) -> bool
     ensures some { IsTrue result → 0 < length chars.now }
-    ensures text { (c : Flagged) → IsTrue result → IsIn 0 255 (END ∷ ESC ∷ []) (slice_index_or chars.now 0 c) }
+    ensures text { (c : Flagged) → IsTrue result → IsInBounds 0 255 (END ∷ ESC ∷ []) (slice_index_or chars.now 0 c) }
 {
     match chars {
         [first, ..] => is_text(*first),

@@ -1,6 +1,6 @@
 //! Packets as the bytes that are sent.
 
-ghost use Rattle.std.specs.Prelude.{◌≡◌, ℕ, ◌+◌, ◌++◌, ◌<◌, ◌≤◌, ◌↔◌, length, IfOk, Err};
+ghost use Rattle.std.specs.Prelude.{◌≡◌, ◌+◌, ◌++◌, ◌<◌, ◌≤◌, ◌↔◌, length, IfOk, Err};
 ghost use Rattle.slip_frames.specs.Slip.{spelling_of, spelling_of_byte, max_packet};
 ghost use Rattle.slip_frames.specs.declared.sending.SlipFault.TheVariants.{NoMemory as OutOfMemory};
 

@@ -70,13 +70,6 @@ pub bytes_counted : (word : List ℕ)
     → length word / 2 ≡ length (bytes_of word)
 bytes_counted word all even = sym (ap length (bytes_paired word all even) ∙ paired_length word)
 
--- the digits of HEX, of which there is an even number
-pub hex_parts : (word : List ℕ) → is_hex word ≡ true → (list_all is_hex_digit word ≡ true) × (length word % 2 ≡ 0)
-hex_parts [] h = cc
-hex_parts (first ∷ digits) h =
-    let both = and_parts (list_all is_hex_digit (first ∷ digits)) (length (first ∷ digits) % 2 == 0) h in
-    (both.0, eqb-true (length (first ∷ digits) % 2) 0 both.1)
-
 paired_append : (xs ys : List ℕ) → length xs % 2 ≡ 0 → paired (xs ++ ys) ≡ paired xs ++ paired ys
 paired_append [] ys even = refl
 paired_append (last ∷ []) ys even = absurd (omega arith)

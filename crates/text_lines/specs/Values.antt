@@ -4,6 +4,7 @@ use Rattle.std.specs.Prelude.{[], ◌∷◌, length, fold, slice_index_or, if◌
 use Rattle.std.specs.Str.{bytes_eq}
 use Rattle.std.specs.List.{list_all}
 use Rattle.std.specs.Result.{result_unwrap_or}
+use Rattle.tty_base.specs.Sizes.{MOST_NAME}
 use Rattle.hex.specs.Hex.{is_hex_digit, decode_of}
 use Rattle.text_lines.specs.Lines.{first_is}
 
@@ -40,7 +41,7 @@ begins_name (first ∷ bytes) = is_lowercase first
 
 -- a letter a to z, and up to 15 letters a to z, digits or `_`
 abbrev pub is_name : List ℕ → Bool
-is_name name = (begins_name name && list_all is_name_byte name) && nat_le (length name) 16
+is_name name = (begins_name name && list_all is_name_byte name) && nat_le (length name) MOST_NAME
 
 -- an even number, not 0, of hexadecimal digits, in either case
 abbrev pub is_hex : List ℕ → Bool

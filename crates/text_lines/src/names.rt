@@ -1,19 +1,18 @@
 //! Words that are names.
 
-ghost use Rattle.std.specs.Prelude.{◌≡◌, ◌≤◌, IsTrue};
+ghost use Rattle.std.specs.Prelude.{◌≡◌, IsTrue};
 ghost use Rattle.std.specs.List.{list_all};
 ghost use Rattle.text_lines.specs.Values.{begins_name, is_name, is_name_byte};
 
 use arrayvec::ArrayString;
 use std::str;
-
-const MOST_BYTES: usize = 16;
+use tty_base::sizes::MOST_NAME;
 
 /// Whether a word is a name: a letter a to z, and up to 15 letters a to z, digits or `_`.
 pub fn is_name(word: &[u8]) -> bool
     ensures { result ≡ is_name word.now }
 {
-    begins_name(word) && are_name_bytes(word) && word.len() <= MOST_BYTES
+    begins_name(word) && are_name_bytes(word) && word.len() <= MOST_NAME
 }
 
 /// A name as text.

@@ -1,5 +1,5 @@
 -- What is told of a source or a sink, over a further piece.
-use Rattle.std.proofs.Common.{◌≡◌, ◌↔◌, Result, Ok, Err, ℕ, List, [], Option, Some, None, ◌++◌, ◌+◌}
+use Rattle.std.proofs.Common.{◌≡◌, ◌↔◌, Ok, Err, ℕ, List, [], Option, Some, None, ◌++◌, ◌+◌}
 use Rattle.std.proofs.Common.{◌≤◌, take, drop, length, IfSome, sym, ◌∙◌, ap, arith, append_assoc}
 use Rattle.std.proofs.Common.{length-append, length-drop, length-take, append-nil, subst}
 use Rattle.std.proofs.Math.Seq.{take-add, drop-length}

@@ -40,7 +40,7 @@ impl Flagged {
 
 /// The four good characters from the place `at` on.
 #[inline(always)]
-pub fn four_good(bytes: &[u8], at: usize) -> [Flagged; 4]
+pub(crate) fn four_good(bytes: &[u8], at: usize) -> [Flagged; 4]
     requires { at + 4 ≤ length bytes.now }
     ensures { good_characters (take (at + 4) bytes.now) ≡ good_characters (take at bytes.now) ++ result }
 {

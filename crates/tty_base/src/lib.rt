@@ -16,7 +16,7 @@ mod sources;
 mod standard;
 
 pub use buffers::{Buffer, Bytes, NoMemory};
-pub use characters::{Flag, Flagged, four_good, good_at};
+pub use characters::{Flag, Flagged, good_at};
 pub use counters::{Counts, Errno, Signal};
 pub use lines::{Full, LineReport, LineStep, Overrun, Overruns, Put};
 pub use lists::Chars;

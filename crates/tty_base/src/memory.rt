@@ -1,6 +1,6 @@
 //! A source and a sink in memory, for tests.
-ghost use Rattle.std.specs.Prelude.{◌≡◌, ◌⊎◌, ℕ, List, [], Option, Some, Ok, Err, ◌+◌, ◌-◌, ◌++◌, ◌≤◌, ◌<◌};
-ghost use Rattle.std.specs.Prelude.{◌↔◌, min, take, drop, length, IfOk, IfSome, OnOk, OnErr, IsErr, Contains};
+ghost use Rattle.std.specs.Prelude.{◌≡◌, ◌⊎◌, [], Some, Ok, Err, ◌+◌, ◌-◌, ◌++◌, ◌≤◌, ◌<◌};
+ghost use Rattle.std.specs.Prelude.{◌↔◌, min, take, drop, length, IfOk, OnErr, IsErr, Contains};
 ghost use Rattle.tty_base.specs.Outside.{Rose, Gives};
 ghost use Rattle.tty_base.specs.Memory.{call_after, faults_after};
 

@@ -1,6 +1,6 @@
 //! Where bytes come from.
-ghost use Rattle.std.specs.Prelude.{◌≡◌, ℕ, List, [], Option, Some, ◌+◌, ◌≤◌, ◌<◌, take};
-ghost use Rattle.std.specs.Prelude.{drop, length, IfOk, IfSome, OnOk, OnErr, IsErrOf, ◌↔◌};
+ghost use Rattle.std.specs.Prelude.{◌≡◌, ℕ, List, [], Option, Some, ◌+◌, ◌≤◌, ◌<◌};
+ghost use Rattle.std.specs.Prelude.{length, IfOk, IfSome, OnErr, IsErrOf, ◌↔◌};
 ghost use Rattle.tty_base.specs.Outside.{Rose, Gives, LeavesRest, TookCount};
 
 use super::buffers::{Bytes, NoMemory};

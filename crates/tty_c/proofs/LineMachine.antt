@@ -10,7 +10,7 @@ use denote.RawPtr.{Ptr, ptr_val}
 use denote.Steps.{nothing}
 use denote.Struct.Struct.{within}
 use denote.Struct.Owning.{shape}
-use Rattle.tty_device.specs.Lines.{LineState}
+use Rattle.tty_device.specs.Lines.{PutEnd}
 use Rattle.tty_c.specs.Owning.{end_owns}
 use Rattle.tty_c.specs.contracts.lines.LineSlot as slot
 use Rattle.tty_c.proofs.Machine.{slot_val}
@@ -23,7 +23,7 @@ module _ {M : Type 1} {𝓤 : Ura M} {𝓛 : Logic 𝓤} {K : Type 0} {Γ : List
       fsplit t $ fpick t (λ parts. fsplit t $ feq_l t (λ whole. fsplit t $ feq_l t (λ pointer. drop t $
       k (whole ∙ ap (λ (ws : List Val). vstruct (of_list (ws ++ [])) ∷ []) pointer))))
 
-  pub slot_in : K → (at : Ptr) (end : Option LineState)
+  pub slot_in : K → (at : Ptr) (end : Option PutEnd)
       → Step K 𝓛 (‵ ((slot.the_row).own_val (record { at = at; end = end }) (slot_val at ∷ [])) ∷ Γ) G
       (‵ (end_owns end at) ∷ Γ) G
   slot_in t at end = step (λ s. let v : Val = slot_val at in

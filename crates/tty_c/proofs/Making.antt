@@ -2,9 +2,9 @@
 use Rattle.std.proofs.Common.{◌≡◌, ℕ, Option, Some, ◌∙◌, ap}
 use Rattle.atomic_table.specs.Seated.{TableId}
 use Rattle.tty_device.specs.Devices.{DeviceState, fresh_device, fresh_whole}
-use Rattle.tty_device.specs.Lines.{LineState, fresh_line}
+use Rattle.tty_device.specs.Lines.{PutEnd, fresh_line}
 
-pub new_pair : (port : Option DeviceState) (line : Option LineState) (d : DeviceState) (e : LineState)
+pub new_pair : (port : Option DeviceState) (line : Option PutEnd) (d : DeviceState) (e : PutEnd)
     (callers capacity : ℕ)
     → port ≡ Some d
     → line ≡ Some e

@@ -5,11 +5,11 @@ use Rattle.tty_calls.specs.Plain.{answer_of}
 use Rattle.tty_terminal.specs.declared.rooms.Met.TheVariants as met
 use Rattle.tty_terminal.specs.Outcomes.{Outcome, unknown, waits as must_wait, takes, gives}
 use Rattle.tty_terminal.specs.Meeting.{Meets}
-use Rattle.tty_c.specs.declared.told.Told.{Told}
+use Rattle.tty_c.specs.declared.told.Detail.{Detail}
 use Rattle.tty_c.specs.Answers.{waits}
 use Rattle.tty_c.specs.Calls.{answer_number, outcome_number, place_with, place_after}
 
-pub told_gives : (t : Told) (o : Outcome) (given : Answer)
+pub told_gives : (t : Detail) (o : Outcome) (given : Answer)
     → Meets o (met.Gives given)
     → answer_number t (answer_of given) ≡ outcome_number t o
 told_gives t unknown given h = absurd h
@@ -17,13 +17,13 @@ told_gives t must_wait given h = absurd h
 told_gives t (takes n left) given h = absurd h
 told_gives t (gives answer drops left) given h = ap (answer_number t) h
 
-pub told_takes : (t : Told) (o : Outcome) (count : ℕ) → Meets o (met.Takes count) → pos count ≡ outcome_number t o
+pub told_takes : (t : Detail) (o : Outcome) (count : ℕ) → Meets o (met.Takes count) → pos count ≡ outcome_number t o
 told_takes t unknown count h = absurd h
 told_takes t must_wait count h = absurd h
 told_takes t (takes n left) count h = ap pos h
 told_takes t (gives answer drops left) count h = absurd h
 
-pub told_waits : (t : Told) (o : Outcome) → Meets o met.Waits → waits ≡ outcome_number t o
+pub told_waits : (t : Detail) (o : Outcome) → Meets o met.Waits → waits ≡ outcome_number t o
 told_waits t unknown h = absurd h
 told_waits t must_wait h = refl
 told_waits t (takes n left) h = absurd h

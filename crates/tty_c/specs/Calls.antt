@@ -22,13 +22,13 @@ use Rattle.tty_terminal.specs.Meeting.{drops_of}
 use Rattle.flow_control.specs.Counting.{count_after}
 use mathlib.Core.List.{IsPrefix}
 use Rattle.tty_device.specs.Kept.{chars_of, flushed_of, dropped_of}
-use Rattle.tty_device.specs.Devices.{DeviceState, outcome_for, after_call, Drops, DropsWhere, with_taken_of}
+use Rattle.tty_device.specs.Devices.{DeviceState, outcome_for, after_call, DropsShown, DropsWhere, with_taken_of}
 use Rattle.tty_device.specs.Devices.{after_hang_up, is_stuck, FlushesWhere, TakesInWhere, wire_of, taken_count}
 use Rattle.tty_device.specs.Devices.{at_front, without_wire_front, first_signal, without_first_signal}
 use Rattle.flip_buffer.specs.Packed.{with_flag}
-use Rattle.tty_device.specs.Lines.{LineState, IsFull}
-use Rattle.tty_c.specs.declared.told.Told.{Told}
-use Rattle.tty_c.specs.declared.told.Told.TheVariants as told
+use Rattle.tty_device.specs.Lines.{PutEnd, HasNoRoom}
+use Rattle.tty_c.specs.declared.told.Detail.{Detail}
+use Rattle.tty_c.specs.declared.told.Detail.TheVariants as told
 use Rattle.tty_c.specs.declared.ports.Port.{Port}
 use Rattle.tty_c.specs.declared.lines.Line.{Line}
 use Rattle.tty_c.specs.declared.account_exports.Account.{Account}
@@ -38,7 +38,7 @@ use Rattle.tty_c.specs.Answers.{no_memory, no_terminal, waits, no_flag, of_truth
 abbrev pub device_in : Port → Option DeviceState
 device_in port = port.slot.device
 
-abbrev pub end_in : Line → Option LineState
+abbrev pub end_in : Line → Option PutEnd
 end_in line = line.slot.end
 
 -- ---- answers
@@ -55,7 +55,7 @@ errno_number errno.ENOTTY = negsuc 24
 errno_number errno.EMSGSIZE = negsuc 89
 
 -- of the modes a call tells whether one flag is set, or one control character
-abbrev pub modes_number : Told → Settings → ℤ
+abbrev pub modes_number : Detail → Settings → ℤ
 modes_number (told.Flag flag) modes = of_truth (has_flag modes flag)
 modes_number (told.Character place) modes = pos (character modes place)
 modes_number (told.Count place) modes = pos 0
@@ -76,14 +76,14 @@ count_at counts place =
     else if place == 9 then counts.pfull
     else 0
 
-abbrev pub counts_number : Told → Counts → ℤ
+abbrev pub counts_number : Detail → Counts → ℤ
 counts_number (told.Count place) counts = pos (min (count_at counts place) 9223372036854775807)
 counts_number (told.Flag flag) counts = pos 0
 counts_number (told.Character place) counts = pos 0
 counts_number told.Nothing counts = pos 0
 
 -- an answer as a number: 0 where the call was done, how many bytes it took or gives, the number that was asked for
-abbrev pub answer_number : Told → PlainAnswer → ℤ
+abbrev pub answer_number : Detail → PlainAnswer → ℤ
 answer_number t done = pos 0
 answer_number t (count_is n) = pos n
 answer_number t (got bytes) = pos (length bytes)
@@ -94,7 +94,7 @@ answer_number t (refused error) = errno_number error
 answer_number t idle = pos 0
 
 -- a part of a write answers how many bytes it took
-abbrev pub outcome_number : Told → Outcome → ℤ
+abbrev pub outcome_number : Detail → Outcome → ℤ
 outcome_number t unknown = pos 0
 outcome_number t must_wait = waits
 outcome_number t (takes n left) = pos n
@@ -103,7 +103,7 @@ outcome_number t (gives answer drops left) = answer_number t answer
 -- ---- calls
 
 -- A call on a port answers what it meets, and leaves what that leaves; without memory it does nothing.
-pub record DeviceCalls (t : Told) (old new : DeviceState) (c : ℕ) (call : PlainCall) (result : ℤ) : Type 0 where
+pub record DeviceCalls (t : Detail) (old new : DeviceState) (c : ℕ) (call : PlainCall) (result : ℤ) : Type 0 where
   pub answered : result ≢ no_memory → result ≡ outcome_number t (outcome_for old c call)
   pub left : result ≢ no_memory → new ≡ with_taken_of new (after_call old c call)
   pub drops : result ≢ no_memory → DropsWhere (drops_of (outcome_for old c call)) old new
@@ -117,11 +117,11 @@ OnHandle does (Some x) None result = ⊥
 OnHandle does (Some x) (Some y) result = does x y result
 
 -- a call on the port of a handle
-abbrev pub PortCalls : Told → (old new : Option DeviceState) → (c : ℕ) → PlainCall → (result : ℤ) → Type 0
+abbrev pub PortCalls : Detail → (old new : Option DeviceState) → (c : ℕ) → PlainCall → (result : ℤ) → Type 0
 PortCalls t old new c call result = OnHandle (λ d u r. DeviceCalls t d u c call r) old new result
 
 -- one argument is none that the call knows: EINVAL, and nothing is done
-abbrev pub PortCallsWhere : Told → Option PlainCall → (old new : Option DeviceState) → (c : ℕ) → (result : ℤ) → Type 0
+abbrev pub PortCallsWhere : Detail → Option PlainCall → (old new : Option DeviceState) → (c : ℕ) → (result : ℤ) → Type 0
 PortCallsWhere t None old new c result = (result ≡ no_flag) × (new ≡ old)
 PortCallsWhere t (Some call) old new c result = PortCalls t old new c call result
 
@@ -203,7 +203,7 @@ TakesInFlagged bytes (Some flag) old new result = OnHandle (TakesIn bytes flag) 
 -- a port is hung up
 pub record HangsUp (old new : DeviceState) (result : ℤ) : Type 0 where
   pub does : Does (λ _. pos 0) (λ now d. with_taken_of now (after_hang_up d)) old new result
-  pub drops : result ≢ no_memory → Drops old new
+  pub drops : result ≢ no_memory → DropsShown old new
 
 -- the number of a signal (signal.h), and 0 where none was raised
 abbrev pub TakesSignal : (old new : DeviceState) → (result : ℤ) → Type 0
@@ -223,7 +223,7 @@ abbrev pub as_answer : ℕ → ℤ
 as_answer n = pos (min n 9223372036854775807)
 
 -- where the characters of a port are, as a look shows it
-pub record Tells (count : DeviceState → ℕ) (old new : DeviceState) (result : ℤ) : Type 0 where
+pub record TellsAccount (count : DeviceState → ℕ) (old new : DeviceState) (result : ℤ) : Type 0 where
   pub answer : result ≡ as_answer (count new)
   pub same : new ≡ record old { shown = new.shown }
   pub shown : old.shown ≤ new.shown
@@ -241,7 +241,7 @@ waiting_count d = d.shown - length d.taken
 -- ---- the end that puts characters in
 
 -- bytes are put with a flag; the others are overruns
-pub record Puts (bytes : List ℕ) (flag : Flag) (old new : LineState) (result : ℤ) : Type 0 where
+pub record Puts (bytes : List ℕ) (flag : Flag) (old new : PutEnd) (result : ℤ) : Type 0 where
   pub count : ℕ
   pub answer : result ≡ pos count
   pub within : count ≤ length bytes
@@ -252,14 +252,14 @@ pub record Puts (bytes : List ℕ) (flag : Flag) (old new : LineState) (result :
         known = new.known;
       }
   pub known : old.known ≤ new.known
-  pub full : count < length bytes → IsFull new.sent new.known old.capacity
+  pub full : count < length bytes → HasNoRoom new.sent new.known old.capacity
 
-abbrev pub PutsWhere : (bytes : List ℕ) → Option Flag → (old new : Option LineState) → (result : ℤ) → Type 0
+abbrev pub PutsWhere : (bytes : List ℕ) → Option Flag → (old new : Option PutEnd) → (result : ℤ) → Type 0
 PutsWhere bytes None old new result = (result ≡ no_flag) × (new ≡ old)
 PutsWhere bytes (Some flag) old new result = OnHandle (Puts bytes flag) old new result
 
 -- what waits for the other end, as far as it is known
-pub record TellsWaiting (old new : LineState) (result : ℤ) : Type 0 where
+pub record TellsWaiting (old new : PutEnd) (result : ℤ) : Type 0 where
   pub answer : result ≡ as_answer (length old.sent - new.known)
   pub left : new ≡ record old { known = new.known }
   pub known : old.known ≤ new.known
@@ -267,11 +267,11 @@ pub record TellsWaiting (old new : LineState) (result : ℤ) : Type 0 where
 -- ---- both ends
 
 -- a port and an end that were made together, where there are both
-abbrev pub AreOne : Option DeviceState → Option LineState → Type 0
-AreOne port end = (d : DeviceState) (l : LineState) → port ≡ Some d → end ≡ Some l → l.ring ≡ d.ring
+abbrev pub AreOne : Option DeviceState → Option PutEnd → Type 0
+AreOne port end = (d : DeviceState) (l : PutEnd) → port ≡ Some d → end ≡ Some l → l.ring ≡ d.ring
 
 -- the account of both ends, of which the line pushes all that it put: each character was received, dropped, or waits
-pub record Meets (d d' : DeviceState) (l l' : LineState) (told : Account) : Type 0 where
+pub record MeetsBoth (d d' : DeviceState) (l l' : PutEnd) (told : Account) : Type 0 where
   pub sent : told.sent ≡ length l.sent
   pub overruns : told.overruns ≡ l.overruns
   pub received : told.received ≡ flushed_count d
@@ -284,7 +284,7 @@ pub record Meets (d d' : DeviceState) (l l' : LineState) (told : Account) : Type
   pub rises : l.known ≤ l'.known
 
 -- without one of them nothing is told, and nothing changes
-abbrev pub MeetsWhere : (port port' : Option DeviceState) → (end end' : Option LineState) → (told told' : Account)
+abbrev pub MeetsWhere : (port port' : Option DeviceState) → (end end' : Option PutEnd) → (told told' : Account)
     → (result : ℤ)
     → Type 0
 MeetsWhere None port' end end' told told' result =
@@ -293,4 +293,4 @@ MeetsWhere (Some d) port' None end' told told' result =
     (result ≡ no_terminal) × (port' ≡ Some d) × (end' ≡ None) × (told' ≡ told)
 MeetsWhere (Some d) port' (Some l) end' told told' result =
     (result ≡ pos 0)
-    × ((d' : DeviceState) × (l' : LineState) × (port' ≡ Some d') × (end' ≡ Some l') × Meets d d' l l' told')
+    × ((d' : DeviceState) × (l' : PutEnd) × (port' ≡ Some d') × (end' ≡ Some l') × MeetsBoth d d' l l' told')

@@ -8,7 +8,7 @@ use denote.RawPtr.{Ptr}
 use Rattle.tty_embed.specs.Embedded.{Embedded}
 use Rattle.tty_embed.specs.contracts.terminal.Tty.{the_row}
 use Rattle.tty_device.specs.Devices.{DeviceState}
-use Rattle.tty_device.specs.Lines.{LineState}
+use Rattle.tty_device.specs.Lines.{PutEnd}
 use Rattle.tty_device.specs.contracts.devices.Device as device_row
 use Rattle.tty_device.specs.contracts.lines.Line as line_row
 use Rattle.uart_regs.specs.Registers.{Registers}
@@ -25,7 +25,7 @@ abbrev pub device_owns : Option DeviceState → Ptr → Fml
 device_owns None at = ftrue
 device_owns (Some d) at = fex Global (λ heap. box_owns (ghosts.dealloc_token heap) device_row.the_row at d)
 
-abbrev pub end_owns : Option LineState → Ptr → Fml
+abbrev pub end_owns : Option PutEnd → Ptr → Fml
 end_owns None at = ftrue
 end_owns (Some l) at = fex Global (λ heap. box_owns (ghosts.dealloc_token heap) line_row.the_row at l)
 

@@ -7,11 +7,11 @@ ghost use Rattle.tty_terminal.specs.Meeting.{Meets};
 ghost use Rattle.tty_device.specs.Devices.{outcome_for, at_front};
 ghost use Rattle.tty_c.specs.Answers.{no_memory};
 ghost use Rattle.tty_c.specs.Calls.{device_in, DeviceCalls, PortCalls, place_with, place_after, place_after_call};
-ghost use Rattle.tty_c.specs.declared.told.Told.TheVariants.{Nothing};
+ghost use Rattle.tty_c.specs.declared.told.Detail.TheVariants.{Nothing};
 
 use crate::answers::{NO_MEMORY, NO_TERMINAL};
 use crate::ports::{Port, put, taken};
-use crate::told::{Told, met_number};
+use crate::told::{Detail, met_number};
 use std::alloc::Global;
 use tty_base::NoMemory;
 use tty_calls::{Answer, Call};
@@ -19,7 +19,7 @@ use tty_device::Device;
 use tty_terminal::Met;
 
 /// A call on a port.
-fn call_device(device: &mut Device, caller: usize, told: &Told, call: &Call) -> i64
+fn call_device(device: &mut Device, caller: usize, told: &Detail, call: &Call) -> i64
     ensures { DeviceCalls told.now device.old device.new caller (call_of call.now) result }
 {
     match device.call(caller, call) {
@@ -65,7 +65,7 @@ fn read_device(device: &mut Device, caller: usize, call: &Call, place: &mut [u8]
     match device.call(caller, call) {
         Ok(met) => {
             put_met(place, &met);
-            met_number(&Told::Nothing, &met)
+            met_number(&Detail::Nothing, &met)
         }
         Err(NoMemory) => NO_MEMORY,
     }
@@ -73,7 +73,7 @@ fn read_device(device: &mut Device, caller: usize, call: &Call, place: &mut [u8]
 
 /// A call on the port of a handle.
 #[tactic(auto, using(crate::proofs::Handling::on_made, crate::proofs::Handling::on_none))]
-pub fn make_call(alloc: Global, port: &mut Port, caller: usize, told: &Told, call: &Call) -> i64
+pub fn make_call(alloc: Global, port: &mut Port, caller: usize, told: &Detail, call: &Call) -> i64
     ensures { PortCalls told.now (device_in port.old) (device_in port.new) caller (call_of call.now) result }
 {
     let Some(mut device) = taken(alloc, port) else {

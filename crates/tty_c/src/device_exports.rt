@@ -7,8 +7,8 @@ ghost use Rattle.tty_device.specs.Devices.{fresh_device, fresh_whole, after_canc
 ghost use Rattle.tty_device.specs.Lines.{buffer_size, fresh_line};
 ghost use Rattle.tty_c.specs.Answers.{no_memory, no_terminal, already_made, flag_of};
 ghost use Rattle.tty_c.specs.Calls.{device_in, end_in, OnHandle, Does, Receives, TakesIn, TakesInFlagged};
-ghost use Rattle.tty_c.specs.Calls.{HangsUp, TakesSignal, TakesWire, place_after_wire, Tells, flushed_count};
-ghost use Rattle.tty_c.specs.Calls.{dropped_count, waiting_count, Puts, PutsWhere, as_answer, TellsWaiting};
+ghost use Rattle.tty_c.specs.Calls.{HangsUp, TakesSignal, TakesWire, place_after_wire, TellsAccount, flushed_count};
+ghost use Rattle.tty_c.specs.Calls.{dropped_count, waiting_count, PutsWhere, as_answer, TellsWaiting};
 
 use crate::answers::{MADE, NO_FLAG, NO_MEMORY, NO_TERMINAL};
 use crate::lines::Line;
@@ -299,7 +299,7 @@ pub extern "C" fn jw_port_take_signal(alloc: Global, port: &mut Port) -> i64
 #[tactic(auto, using(crate::proofs::Handling::on_made, crate::proofs::Handling::on_none))]
 #[unsafe(no_mangle)]
 pub extern "C" fn jw_port_received(alloc: Global, port: &mut Port) -> i64
-    ensures { OnHandle (Tells flushed_count) (device_in port.old) (device_in port.new) result }
+    ensures { OnHandle (TellsAccount flushed_count) (device_in port.old) (device_in port.new) result }
 {
     let Some(mut device) = ports::taken(alloc, port) else {
         return NO_TERMINAL;
@@ -313,7 +313,7 @@ pub extern "C" fn jw_port_received(alloc: Global, port: &mut Port) -> i64
 #[tactic(auto, using(crate::proofs::Handling::on_made, crate::proofs::Handling::on_none))]
 #[unsafe(no_mangle)]
 pub extern "C" fn jw_port_dropped(alloc: Global, port: &mut Port) -> i64
-    ensures { OnHandle (Tells dropped_count) (device_in port.old) (device_in port.new) result }
+    ensures { OnHandle (TellsAccount dropped_count) (device_in port.old) (device_in port.new) result }
 {
     let Some(mut device) = ports::taken(alloc, port) else {
         return NO_TERMINAL;
@@ -327,7 +327,7 @@ pub extern "C" fn jw_port_dropped(alloc: Global, port: &mut Port) -> i64
 #[tactic(auto, using(crate::proofs::Handling::on_made, crate::proofs::Handling::on_none))]
 #[unsafe(no_mangle)]
 pub extern "C" fn jw_port_waiting(alloc: Global, port: &mut Port) -> i64
-    ensures { OnHandle (Tells waiting_count) (device_in port.old) (device_in port.new) result }
+    ensures { OnHandle (TellsAccount waiting_count) (device_in port.old) (device_in port.new) result }
 {
     let Some(mut device) = ports::taken(alloc, port) else {
         return NO_TERMINAL;

@@ -23,5 +23,5 @@ pub use handle::Handle;
 pub use lines::{Line, LineSlot};
 pub use ports::{Port, PortSlot};
 pub use slot::Slot;
-pub use told::Told;
+pub use told::Detail;
 pub use uarts::{Receiver, UartSlot};

@@ -2,7 +2,7 @@
 
 ghost use Rattle.std.specs.Prelude.{◌≡◌, Option, Some, None, is_some, option_map, true};
 ghost use Rattle.std.specs.Option.{MatchOption};
-ghost use Rattle.tty_device.specs.Lines.{LineState};
+ghost use Rattle.tty_device.specs.Lines.{PutEnd};
 
 use crate::handle::null;
 use crate::loose::Loose;
@@ -16,7 +16,7 @@ use tty_device::Line as LineEnd;
 #[repr(C)]
 pub struct LineSlot {
     at: *mut u8,
-    pub ghost end: { Option LineState },
+    pub ghost end: { Option PutEnd },
 }
 
 impl Model for LineSlot {
@@ -51,14 +51,14 @@ impl LineSlot {
 
     /// Frees the putting end of a port.
     pub fn free(self, alloc: Global)
-        requires { (t : LineState) × (self.end ≡ Some t) }
+        requires { (t : PutEnd) × (self.end ≡ Some t) }
     {
         drop(self.into_loose(alloc).into_box());
     }
 
     /// The putting end of a port of a slot.
     pub fn into_loose(self, alloc: Global) -> Loose<LineEnd, Global>
-        requires { (t : LineState) × (self.end ≡ Some t) }
+        requires { (t : PutEnd) × (self.end ≡ Some t) }
         ensures { self.end ≡ Some result.value }
     {
         let LineSlot { at } = self;

@@ -1,6 +1,7 @@
 //! The calls of a program in C on a port.
 
-ghost use Rattle.std.specs.Prelude.{◌≡◌, ◌≢◌, ◌∷◌, [], min, length, option_map, None, Some};
+ghost use Rattle.std.specs.Prelude.{◌≡◌, ◌≢◌, min, length, option_map, Some};
+ghost use Rattle.tty_base.specs.Sizes.{MOST_ASKED};
 ghost use Rattle.tty_modes.specs.Reading.{word_of};
 ghost use Rattle.tty_calls.specs.Plain.{opens, closes, reads, writes, gets_modes, gets_disc, sets_disc};
 ghost use Rattle.tty_calls.specs.Plain.{flushes, steers, counts_input, counts_output, excludes, admits};
@@ -8,18 +9,16 @@ ghost use Rattle.tty_calls.specs.Plain.{drains, gets_counts, hangs_up, sends_pac
 ghost use Rattle.tty_c.specs.Answers.{no_memory};
 ghost use Rattle.tty_c.specs.Calls.{device_in, PortCalls, PortCallsWhere, place_after_call};
 ghost use Rattle.tty_c.specs.Calls.{access_of, queue_of, act_of, when_of, word_set};
-ghost use Rattle.tty_c.specs.declared.told.Told.TheVariants.{Nothing, Flag, Character, Count};
+ghost use Rattle.tty_c.specs.declared.told.Detail.TheVariants.{Nothing, Flag, Character, Count};
 
 use crate::answers::NO_FLAG;
 use crate::calls::{make_call, make_read};
 use crate::ports::Port;
-use crate::told::{Told, access_of, act_of, queue_of, when_of};
+use crate::told::{Detail, access_of, act_of, queue_of, when_of};
 use std::alloc::Global;
+use tty_base::sizes::MOST_ASKED;
 use tty_calls::Call;
 use tty_modes::set_word_bytes;
-
-/// How many bytes one read gives at most.
-const MOST_READ: usize = 65536;
 
 /// Opens a port under the number `h`, for reading, writing or both (open(2)).
 #[unsafe(no_mangle)]
@@ -42,7 +41,7 @@ pub extern "C" fn jw_port_open(
         access,
         nonblock,
     };
-    make_call(alloc, port, caller, &Told::Nothing, &call)
+    make_call(alloc, port, caller, &Detail::Nothing, &call)
 }
 
 /// Closes a handle (close(2)).
@@ -50,7 +49,7 @@ pub extern "C" fn jw_port_open(
 pub extern "C" fn jw_port_close(alloc: Global, port: &mut Port, caller: usize, h: u8) -> i64
     ensures { PortCalls Nothing (device_in port.old) (device_in port.new) caller (closes h) result }
 {
-    make_call(alloc, port, caller, &Told::Nothing, &Call::Close { h })
+    make_call(alloc, port, caller, &Detail::Nothing, &Call::Close { h })
 }
 
 /// Reads into a place, 65,536 bytes at most, and answers how many (read(2)).
@@ -63,12 +62,13 @@ pub extern "C" fn jw_port_read(
     place: &mut [u8],
 ) -> i64
     ensures calls { PortCalls Nothing (device_in port.old) (device_in port.new) caller
-        (reads h (min (length place.old) 65536)) result }
+        (reads h (min (length place.old) MOST_ASKED)) result }
     ensures place { result ≢ no_memory
-        → place.new ≡ place_after_call (device_in port.old) caller (reads h (min (length place.old) 65536)) place.old }
+        → place.new
+        ≡ place_after_call (device_in port.old) caller (reads h (min (length place.old) MOST_ASKED)) place.old }
     ensures kept { result ≡ no_memory → place.new ≡ place.old }
 {
-    let n = place.len().min(MOST_READ) as u32;
+    let n = place.len().min(MOST_ASKED) as u32;
     make_read(alloc, port, caller, &Call::Read { h, n }, place)
 }
 
@@ -87,7 +87,7 @@ pub extern "C" fn jw_port_write(
         alloc,
         port,
         caller,
-        &Told::Nothing,
+        &Detail::Nothing,
         &Call::Write { h, bytes },
     )
 }
@@ -117,7 +117,7 @@ pub extern "C" fn jw_port_set(
         when,
         words: &words,
     };
-    make_call(alloc, port, caller, &Told::Nothing, &call)
+    make_call(alloc, port, caller, &Detail::Nothing, &call)
 }
 
 /// Whether a flag of the modes is set (tcgetattr(3)).
@@ -135,7 +135,7 @@ pub extern "C" fn jw_port_flag(
         alloc,
         port,
         caller,
-        &Told::Flag(flag),
+        &Detail::Flag(flag),
         &Call::GetModes { h },
     )
 }
@@ -151,7 +151,7 @@ pub extern "C" fn jw_port_character(
 ) -> i64
     ensures { PortCalls (Character place) (device_in port.old) (device_in port.new) caller (gets_modes h) result }
 {
-    let told = Told::Character(place);
+    let told = Detail::Character(place);
     make_call(alloc, port, caller, &told, &Call::GetModes { h })
 }
 
@@ -160,7 +160,7 @@ pub extern "C" fn jw_port_character(
 pub extern "C" fn jw_port_getd(alloc: Global, port: &mut Port, caller: usize, h: u8) -> i64
     ensures { PortCalls Nothing (device_in port.old) (device_in port.new) caller (gets_disc h) result }
 {
-    make_call(alloc, port, caller, &Told::Nothing, &Call::GetDisc { h })
+    make_call(alloc, port, caller, &Detail::Nothing, &Call::GetDisc { h })
 }
 
 /// Changes the line discipline (ioctl_tty(2), TIOCSETD).
@@ -178,7 +178,7 @@ pub extern "C" fn jw_port_setd(
         alloc,
         port,
         caller,
-        &Told::Nothing,
+        &Detail::Nothing,
         &Call::SetDisc { h, number },
     )
 }
@@ -202,7 +202,7 @@ pub extern "C" fn jw_port_flush(
         alloc,
         port,
         caller,
-        &Told::Nothing,
+        &Detail::Nothing,
         &Call::Flush { h, queue },
     )
 }
@@ -216,7 +216,13 @@ pub extern "C" fn jw_port_flow(alloc: Global, port: &mut Port, caller: usize, h:
     let Some(act) = act_of(act) else {
         return NO_FLAG;
     };
-    make_call(alloc, port, caller, &Told::Nothing, &Call::Xonc { h, act })
+    make_call(
+        alloc,
+        port,
+        caller,
+        &Detail::Nothing,
+        &Call::Xonc { h, act },
+    )
 }
 
 /// How many bytes can be read (ioctl_tty(2), FIONREAD).
@@ -224,7 +230,7 @@ pub extern "C" fn jw_port_flow(alloc: Global, port: &mut Port, caller: usize, h:
 pub extern "C" fn jw_port_inq(alloc: Global, port: &mut Port, caller: usize, h: u8) -> i64
     ensures { PortCalls Nothing (device_in port.old) (device_in port.new) caller (counts_input h) result }
 {
-    make_call(alloc, port, caller, &Told::Nothing, &Call::Inq { h })
+    make_call(alloc, port, caller, &Detail::Nothing, &Call::Inq { h })
 }
 
 /// How many bytes are held (ioctl_tty(2), TIOCOUTQ).
@@ -232,7 +238,7 @@ pub extern "C" fn jw_port_inq(alloc: Global, port: &mut Port, caller: usize, h: 
 pub extern "C" fn jw_port_outq(alloc: Global, port: &mut Port, caller: usize, h: u8) -> i64
     ensures { PortCalls Nothing (device_in port.old) (device_in port.new) caller (counts_output h) result }
 {
-    make_call(alloc, port, caller, &Told::Nothing, &Call::Outq { h })
+    make_call(alloc, port, caller, &Detail::Nothing, &Call::Outq { h })
 }
 
 /// Lets nobody else open the port (ioctl_tty(2), TIOCEXCL).
@@ -240,7 +246,7 @@ pub extern "C" fn jw_port_outq(alloc: Global, port: &mut Port, caller: usize, h:
 pub extern "C" fn jw_port_exclude(alloc: Global, port: &mut Port, caller: usize, h: u8) -> i64
     ensures { PortCalls Nothing (device_in port.old) (device_in port.new) caller (excludes h) result }
 {
-    make_call(alloc, port, caller, &Told::Nothing, &Call::Excl { h })
+    make_call(alloc, port, caller, &Detail::Nothing, &Call::Excl { h })
 }
 
 /// Lets others open the port again (ioctl_tty(2), TIOCNXCL).
@@ -248,7 +254,7 @@ pub extern "C" fn jw_port_exclude(alloc: Global, port: &mut Port, caller: usize,
 pub extern "C" fn jw_port_admit(alloc: Global, port: &mut Port, caller: usize, h: u8) -> i64
     ensures { PortCalls Nothing (device_in port.old) (device_in port.new) caller (admits h) result }
 {
-    make_call(alloc, port, caller, &Told::Nothing, &Call::Nxcl { h })
+    make_call(alloc, port, caller, &Detail::Nothing, &Call::Nxcl { h })
 }
 
 /// Waits until no output is held (tcdrain(3)).
@@ -256,7 +262,7 @@ pub extern "C" fn jw_port_admit(alloc: Global, port: &mut Port, caller: usize, h
 pub extern "C" fn jw_port_drain(alloc: Global, port: &mut Port, caller: usize, h: u8) -> i64
     ensures { PortCalls Nothing (device_in port.old) (device_in port.new) caller (drains h) result }
 {
-    make_call(alloc, port, caller, &Told::Nothing, &Call::Drain { h })
+    make_call(alloc, port, caller, &Detail::Nothing, &Call::Drain { h })
 }
 
 /// One of the counts of a port.
@@ -274,7 +280,7 @@ pub extern "C" fn jw_port_count(
         alloc,
         port,
         caller,
-        &Told::Count(place),
+        &Detail::Count(place),
         &Call::Counts { h },
     )
 }
@@ -284,7 +290,7 @@ pub extern "C" fn jw_port_count(
 pub extern "C" fn jw_port_vhangup(alloc: Global, port: &mut Port, caller: usize, h: u8) -> i64
     ensures { PortCalls Nothing (device_in port.old) (device_in port.new) caller (hangs_up h) result }
 {
-    make_call(alloc, port, caller, &Told::Nothing, &Call::Vhangup { h })
+    make_call(alloc, port, caller, &Detail::Nothing, &Call::Vhangup { h })
 }
 
 /// Sends a packet (RFC 1055).
@@ -299,7 +305,7 @@ pub extern "C" fn jw_port_send(
     ensures { PortCalls Nothing (device_in port.old) (device_in port.new) caller (sends_packet h bytes.now) result }
 {
     let call = Call::SendPacket { h, bytes };
-    make_call(alloc, port, caller, &Told::Nothing, &call)
+    make_call(alloc, port, caller, &Detail::Nothing, &call)
 }
 
 /// Takes the first packet that was received into a place, and answers how long it is (RFC 1055).

@@ -16,7 +16,7 @@ use tty_terminal::Met;
 
 /// What is told of modes and counts, which are more than a number.
 #[derive(Clone, Copy, Debug, PartialEq, Eq)]
-pub enum Told {
+pub enum Detail {
     Nothing,
     /// Whether a flag is set.
     Flag(u32),
@@ -43,13 +43,13 @@ fn errno_number(errno: Errno) -> i64
     }
 }
 
-fn modes_number(told: &Told, modes: &Modes) -> i64
+fn modes_number(told: &Detail, modes: &Modes) -> i64
     ensures number { result ≡ modes_number told.now modes.now }
     ensures apart { result ≢ no_memory }
 {
     match told {
-        Told::Flag(flag) => { if modes.has(*flag) { 1 } else { 0 } }
-        Told::Character(place) => i64::from(modes.cc(*place)),
+        Detail::Flag(flag) => { if modes.has(*flag) { 1 } else { 0 } }
+        Detail::Character(place) => i64::from(modes.cc(*place)),
         _ => 0,
     }
 }
@@ -72,18 +72,18 @@ fn count_at(counts: &Counts, place: u8) -> u64
     }
 }
 
-fn counts_number(told: &Told, counts: &Counts) -> i64
+fn counts_number(told: &Detail, counts: &Counts) -> i64
     ensures number { result ≡ counts_number told.now counts.now }
     ensures apart { result ≢ no_memory }
 {
     match told {
-        Told::Count(place) => count_at(counts, *place).min(9223372036854775807) as i64,
+        Detail::Count(place) => count_at(counts, *place).min(9223372036854775807) as i64,
         _ => 0,
     }
 }
 
 /// An answer as a number.
-fn answer_number(told: &Told, answer: &Answer) -> i64
+fn answer_number(told: &Detail, answer: &Answer) -> i64
     ensures number { result ≡ answer_number told.now (answer_of answer.now) }
     ensures apart { result ≢ no_memory }
 {
@@ -100,7 +100,7 @@ fn answer_number(told: &Told, answer: &Answer) -> i64
 
 /// What a call met as a number.
 #[tactic(auto, using(crate::proofs::Telling::told_gives, crate::proofs::Telling::told_takes, crate::proofs::Telling::told_waits))]
-pub fn met_number(told: &Told, met: &Met) -> i64
+pub fn met_number(told: &Detail, met: &Met) -> i64
     ensures number { (o : Outcome) → Meets o met.now → result ≡ outcome_number told.now o }
     ensures apart { result ≢ no_memory }
 {

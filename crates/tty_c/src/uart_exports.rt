@@ -1,7 +1,7 @@
 //! The calls of a program in C on the receive side of a 16550.
 
 ghost use Rattle.std.specs.Prelude.{◌≡◌, ◌≢◌, pos, Some, None, is_some, IfOk, if◌then◌else◌};
-ghost use Rattle.uart_regs.specs.Registers.{Registers, initial_registers, after_idle, is_pending};
+ghost use Rattle.uart_regs.specs.Registers.{initial_registers, after_idle, is_pending};
 ghost use Rattle.tty_c.specs.Answers.{no_memory, no_terminal, already_made, of_truth};
 ghost use Rattle.tty_c.specs.Calls.{OnHandle, Does};
 ghost use Rattle.tty_c.specs.Uarts.{uart_in, reg_of, error_flag_of, ArrivesWhere, ReadsWhere, WritesWhere};

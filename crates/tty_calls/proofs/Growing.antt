@@ -5,13 +5,13 @@ use Rattle.std.proofs.lemmas.List.{map-append, take_all}
 use Rattle.std.proofs.Math.Seq.{drop-append_seam}
 use Rattle.std.specs.Prelude.{All}
 use Rattle.tty_base.specs.declared.characters.Flagged.{Flagged}
-use Rattle.tty_calls.specs.declared.parts.Part.{Part}
+use Rattle.tty_calls.specs.declared.parts.ListPart.{ListPart}
 use Rattle.tty_calls.specs.declared.kept_entries.KeptPurge.{KeptPurge}
 use Rattle.tty_calls.specs.declared.kept_entries.KeptEvent.{KeptEvent}
 use Rattle.tty_calls.specs.declared.kept_entries.KeptEvent.TheVariants as events
 use Rattle.tty_calls.specs.declared.kept_entries.KeptEntry.{KeptEntry}
 use Rattle.tty_calls.specs.declared.kept_entries.Lists.{Lists}
-use Rattle.tty_calls.specs.Parts.{Extends, IsPartOf, part_of}
+use Rattle.tty_calls.specs.Parts.{Extends, IsListPart, part_of}
 use Rattle.tty_calls.specs.Plain.{PlainAnswer, got, PlainEvent, answered, flushed, hung_up, PlainEntry}
 use Rattle.tty_calls.specs.Entries.{Grows, HasAnswer, HasEntry, HasEvent, HasPurge, answer_in}
 use Rattle.tty_calls.specs.Entries.{counts_at, entry_in, event_in, modes_at, purge_at, sent_at}
@@ -32,9 +32,9 @@ get_last (y ∷ ys) x = get_last ys x
 get_where : {A : Type 0} (i : ℕ) (xs now : List A) → Extends xs now → i < length xs → slice_get now i ≡ slice_get xs i
 get_where {A = A} i xs now (more, grown) within = ap (λ (l : List A). slice_get l i) grown ∙ get_stays i xs more within
 
-part_where : {A : Type 0} (xs now : List A) (part : Part)
+part_where : {A : Type 0} (xs now : List A) (part : ListPart)
     → Extends xs now
-    → IsPartOf (length xs) part
+    → IsListPart (length xs) part
     → part_of now part ≡ part_of xs part
 part_where {A = A} xs now part (more, grown) within =
     ap (λ (l : List A). part_of l part) grown ∙ part_stays xs more part within
@@ -181,7 +181,7 @@ pub has_more : (old new : Lists) (es : List KeptEntry) (e : KeptEntry)
 has_more old new es e g all here = all_more (HasEntry new) es e (all_there old new es g all) here
 
 -- a purge that was kept
-module _ (old new : Lists) (purges : List KeptPurge) (answer : KeptEvent) (part : Part) (plain : PlainAnswer)
+module _ (old new : Lists) (purges : List KeptPurge) (answer : KeptEvent) (part : ListPart) (plain : PlainAnswer)
     (characters dropped : List Flagged) (grows : Grows old new) (there : HasAnswer old answer)
     (is : answer_in old answer ≡ plain)
     (added : new.purges.items ≡ purges ++ record { answer = answer; dropped = part } ∷ [])
@@ -195,7 +195,7 @@ module _ (old new : Lists) (purges : List KeptPurge) (answer : KeptEvent) (part 
   same : part_of new.characters.items part ≡ dropped
   same =
       ap (λ (l : List Flagged). part_of l part) kept
-      ∙ ap (λ (p : Part). part_of (characters ++ dropped) p) part_is
+      ∙ ap (λ (p : ListPart). part_of (characters ++ dropped) p) part_is
       ∙ part_behind characters dropped
 
   pub purge_is : purge_at new (slice_get new.purges.items (length purges)) ≡ answered plain dropped
@@ -211,8 +211,8 @@ module _ (old new : Lists) (purges : List KeptPurge) (answer : KeptEvent) (part 
         answer_there old new answer grows there,
         omega (
           arith,
-          ap (λ (p : Part). p.first) part_is,
-          ap (λ (p : Part). p.count) part_is,
+          ap (λ (p : ListPart). p.first) part_is,
+          ap (λ (p : ListPart). p.count) part_is,
           ap length kept,
           length-append characters dropped,
         ),

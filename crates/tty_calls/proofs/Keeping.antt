@@ -3,22 +3,22 @@ use Rattle.std.proofs.Common.{◌≡◌, ℕ, suc, List, [], ◌∷◌, ◌++◌
 use Rattle.std.proofs.lemmas.List.{take-append-le, drop-append-le, length-drop, map-append}
 use Rattle.std.specs.Prelude.{All}
 use Rattle.tty_modes.specs.declared.words.Word.{Word}
-use Rattle.tty_calls.specs.declared.parts.Part.{Part}
+use Rattle.tty_calls.specs.declared.parts.ListPart.{ListPart}
 use Rattle.tty_calls.specs.declared.kept_calls.KeptCall.{KeptCall}
 use Rattle.tty_calls.specs.declared.kept_calls.KeptCall.TheVariants as kept
 use Rattle.tty_calls.specs.Plain.{PlainCall, writes, sets_modes, sends_packet}
-use Rattle.tty_calls.specs.Kept.{IsKept, kept_in}
-use Rattle.tty_calls.specs.Parts.{Extends, IsPartOf, part_of}
+use Rattle.tty_calls.specs.Kept.{IsWithinLists, kept_in}
+use Rattle.tty_calls.specs.Parts.{Extends, IsListPart, part_of}
 
-pub part_stays : {A : Type 0} (xs ys : List A) (part : Part)
-    → IsPartOf (length xs) part
+pub part_stays : {A : Type 0} (xs ys : List A) (part : ListPart)
+    → IsListPart (length xs) part
     → part_of (xs ++ ys) part ≡ part_of xs part
 part_stays xs ys part within =
     ap (take part.count) (drop-append-le part.first xs ys (omega (arith, within)))
     ∙ take-append-le part.count (drop part.first xs) ys (omega (arith, within, length-drop part.first xs))
 
 stays : (bytes more : List ℕ) (words others : List Word) (k : KeptCall)
-    → IsKept (length bytes) (length words) k
+    → IsWithinLists (length bytes) (length words) k
     → kept_in (bytes ++ more) (words ++ others) k ≡ kept_in bytes words k
 stays bytes more words others (kept.Open h access nonblock) w = refl
 stays bytes more words others (kept.Close h) w = refl
@@ -41,7 +41,7 @@ stays bytes more words others (kept.SendPacket h part) w = ap (sends_packet h) (
 stays bytes more words others (kept.TakePacket h) w = refl
 
 all_stay : (bytes more : List ℕ) (words others : List Word) (ks : List KeptCall)
-    → All (IsKept (length bytes) (length words)) ks
+    → All (IsWithinLists (length bytes) (length words)) ks
     → map (kept_in (bytes ++ more) (words ++ others)) ks ≡ map (kept_in bytes words) ks
 all_stay bytes more words others [] w = refl
 all_stay bytes more words others (k ∷ ks) w =
@@ -52,7 +52,7 @@ all_stay bytes more words others (k ∷ ks) w =
 
 -- one more call, behind those before
 pub one_more : (bytes now : List ℕ) (words here : List Word) (ks : List KeptCall) (k : KeptCall) (call : PlainCall)
-    → Extends bytes now → Extends words here → All (IsKept (length bytes) (length words)) ks → kept_in now here k ≡ call
+    → Extends bytes now → Extends words here → All (IsWithinLists (length bytes) (length words)) ks → kept_in now here k ≡ call
     → map (kept_in now here) (ks ++ k ∷ []) ≡ map (kept_in bytes words) ks ++ call ∷ []
 one_more bytes now words here ks k call (more, grown) (others, longer) w is =
     map-append (kept_in now here) ks (k ∷ [])

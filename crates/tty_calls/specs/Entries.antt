@@ -7,7 +7,7 @@ use Rattle.tty_calls.specs.declared.kept_entries.KeptEvent.{KeptEvent}
 use Rattle.tty_calls.specs.declared.kept_entries.KeptEvent.TheVariants as events
 use Rattle.tty_calls.specs.declared.kept_entries.KeptEntry.{KeptEntry}
 use Rattle.tty_calls.specs.declared.kept_entries.Lists.{Lists}
-use Rattle.tty_calls.specs.Parts.{Extends, IsPartOf, part_of}
+use Rattle.tty_calls.specs.Parts.{Extends, IsListPart, part_of}
 use Rattle.tty_calls.specs.Plain.{PlainAnswer, done, count_is, got, number_is, modes_are, counts_are}
 use Rattle.tty_calls.specs.Plain.{refused, idle, PlainEvent, answered, parted, waited, flushed, ticked}
 use Rattle.tty_calls.specs.Plain.{line_ended, clock_ended, caller_ended, phase_ended, hung_up, PlainEntry}
@@ -90,20 +90,20 @@ pub record IsSame (old new : Lists) : Type 0 where
 
 -- whether what a kept answer, purge or event names is there
 abbrev pub HasAnswer : Lists → KeptEvent → Type 0
-HasAnswer b (events.Got part) = IsPartOf (length b.bytes.items) part
+HasAnswer b (events.Got part) = IsListPart (length b.bytes.items) part
 HasAnswer b (events.ModesAre place) = place < length b.modes.items
 HasAnswer b (events.CountsAre place) = place < length b.counts.items
 HasAnswer b other = Unit {0}
 
 abbrev pub HasPurge : Lists → Option KeptPurge → Type 0
 HasPurge b None = ⊥
-HasPurge b (Some purge) = HasAnswer b purge.answer × IsPartOf (length b.characters.items) purge.dropped
+HasPurge b (Some purge) = HasAnswer b purge.answer × IsListPart (length b.characters.items) purge.dropped
 
 abbrev pub HasEvent : Lists → KeptEvent → Type 0
 HasEvent b (events.Purge place) = HasPurge b (slice_get b.purges.items place)
-HasEvent b (events.Flush part) = IsPartOf (length b.characters.items) part
+HasEvent b (events.Flush part) = IsListPart (length b.characters.items) part
 HasEvent b (events.LineEnd place) = place < length b.sents.items
-HasEvent b (events.Hangup part) = IsPartOf (length b.characters.items) part
+HasEvent b (events.Hangup part) = IsListPart (length b.characters.items) part
 HasEvent b other = HasAnswer b other
 
 abbrev pub HasEntry : Lists → KeptEntry → Type 0

@@ -2,7 +2,7 @@
 -- each, and a call names a part of it.
 use Rattle.std.specs.Prelude.{ℕ, List}
 use Rattle.tty_modes.specs.declared.words.Word.{Word}
-use Rattle.tty_calls.specs.Parts.{IsPartOf, part_of}
+use Rattle.tty_calls.specs.Parts.{IsListPart, part_of}
 use Rattle.tty_calls.specs.declared.kept_calls.KeptCall.{KeptCall}
 use Rattle.tty_calls.specs.declared.kept_calls.KeptCall.TheVariants as kept
 use Rattle.tty_calls.specs.Plain.{PlainCall, opens, closes, reads, writes, gets_modes, sets_modes, gets_disc}
@@ -36,8 +36,8 @@ kept_in bytes words (kept.SendPacket h part) = sends_packet h (part_of bytes par
 kept_in bytes words (kept.TakePacket h) = takes_packet h
 
 -- whether the parts that a call names lie within lists of these lengths
-abbrev pub IsKept : ℕ → ℕ → KeptCall → Type 0
-IsKept bytes words (kept.Write h part) = IsPartOf bytes part
-IsKept bytes words (kept.SetModes h when part) = IsPartOf words part
-IsKept bytes words (kept.SendPacket h part) = IsPartOf bytes part
-IsKept bytes words other = Unit {0}
+abbrev pub IsWithinLists : ℕ → ℕ → KeptCall → Type 0
+IsWithinLists bytes words (kept.Write h part) = IsListPart bytes part
+IsWithinLists bytes words (kept.SetModes h when part) = IsListPart words part
+IsWithinLists bytes words (kept.SendPacket h part) = IsListPart bytes part
+IsWithinLists bytes words other = Unit {0}

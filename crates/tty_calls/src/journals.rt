@@ -1,8 +1,5 @@
 //! The entries of a journal, who made them and what they say, and the run of a port.
 
-ghost use Rattle.std.specs.Prelude.{◌≡◌};
-ghost use Rattle.tty_calls.specs.Plain.{is_caller};
-
 use super::answers::AnswerRef;
 use super::kept_entries::Journal;
 use tty_base::{Flagged, LineReport, Moves};
@@ -16,18 +13,6 @@ pub enum Who {
     Line,
     Clock,
     Session,
-}
-
-impl Who {
-    /// Whether the entry was made by the caller of this number.
-    pub fn is_caller(&self, caller: u16) -> bool
-        ensures { result ≡ is_caller self.now caller }
-    {
-        match self {
-            Who::Caller(number) => *number == caller,
-            _ => false,
-        }
-    }
 }
 
 /// What one entry of a journal says. Bytes and characters stand with whoever tells it.

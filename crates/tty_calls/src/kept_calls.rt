@@ -3,11 +3,11 @@
 ghost use Rattle.std.specs.Prelude.{◌≡◌, ◌<◌, Some, [], ◌∷◌, ◌++◌, IfOk, OnOk, OnErr, length, slice_get};
 ghost use Rattle.std.specs.Option.{option_map};
 ghost use Rattle.tty_calls.specs.Plain.{call_of};
-ghost use Rattle.tty_calls.specs.Kept.{IsKept, kept_in};
+ghost use Rattle.tty_calls.specs.Kept.{IsWithinLists, kept_in};
 ghost use Rattle.tty_calls.specs.Parts.{Extends};
 
 use super::calls::{Access, Act, Call, Queue, When};
-use super::parts::{Part, keep, part_in};
+use super::parts::{ListPart, keep, part_in};
 use std::alloc::Global;
 use std::marker::Model;
 use tty_base::{Moves, NoMemory};
@@ -30,7 +30,7 @@ enum KeptCall {
     },
     Write {
         h: u8,
-        bytes: Part,
+        bytes: ListPart,
     },
     GetModes {
         h: u8,
@@ -38,7 +38,7 @@ enum KeptCall {
     SetModes {
         h: u8,
         when: When,
-        words: Part,
+        words: ListPart,
     },
     GetDisc {
         h: u8,
@@ -78,7 +78,7 @@ enum KeptCall {
     },
     SendPacket {
         h: u8,
-        bytes: Part,
+        bytes: ListPart,
     },
     TakePacket {
         h: u8,
@@ -95,13 +95,13 @@ pub struct Calls {
 
 impl Model for Calls {
     ghost use Rattle.std.specs.Prelude.{All, length, map};
-    ghost use Rattle.tty_calls.specs.Kept.{CallList, IsKept, kept_in};
+    ghost use Rattle.tty_calls.specs.Kept.{CallList, IsWithinLists, kept_in};
 
     ghost Value = { CallList };
 
     ghost view = { λ c. record { items = map (kept_in c.bytes.items c.words.items) c.kept.items } };
 
-    ghost invariant = { λ c. All (IsKept (length c.bytes.items) (length c.words.items)) c.kept.items };
+    ghost invariant = { λ c. All (IsWithinLists (length c.bytes.items) (length c.words.items)) c.kept.items };
 }
 
 impl Moves for Calls {}
@@ -109,7 +109,7 @@ impl Moves for Calls {}
 /// A call that was kept, beside the lists that it names parts of.
 #[inline(always)]
 fn lent<'a>(bytes: &'a [u8], words: &'a [Word], kept: &KeptCall) -> Call<'a>
-    requires { IsKept (length bytes.now) (length words.now) kept.now }
+    requires { IsWithinLists (length bytes.now) (length words.now) kept.now }
     ensures { call_of result ≡ kept_in bytes.now words.now kept.now }
 {
     match *kept {
@@ -218,7 +218,7 @@ impl Calls {
 fn kept_of(bytes: &mut Vec<u8>, words: &mut Vec<Word>, call: &Call) -> Result<KeptCall, NoMemory>
     ensures grows { Extends bytes.old.items bytes.new.items × Extends words.old.items words.new.items }
     ensures call { IfOk result (λ kept. kept_in bytes.new.items words.new.items kept ≡ call_of call.now) }
-    ensures kept { IfOk result (λ kept. IsKept (length bytes.new.items) (length words.new.items) kept) }
+    ensures kept { IfOk result (λ kept. IsWithinLists (length bytes.new.items) (length words.new.items) kept) }
     ensures err { OnErr result ((bytes.new.items ≡ bytes.old.items) × (words.new.items ≡ words.old.items)) }
 {
     Ok(match *call {

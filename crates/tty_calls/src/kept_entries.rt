@@ -8,7 +8,7 @@ ghost use Rattle.tty_calls.specs.Entries.{answer_in, entry_in, event_in, purge_a
 
 use super::answers::AnswerRef;
 use super::journals::{Entry, Event, Who};
-use super::parts::{Part, Store, part_in};
+use super::parts::{KeptList, ListPart, part_in};
 use std::alloc::Global;
 use std::marker::Model;
 use tty_base::{Counts, Errno, Flagged, Moves, NoMemory};
@@ -18,7 +18,7 @@ use tty_modes::Modes;
 #[derive(Clone, Copy)]
 struct KeptPurge {
     answer: KeptEvent,
-    dropped: Part,
+    dropped: ListPart,
 }
 
 /// An event that names what stands in lists. The first eight are answers with which nothing was dropped;
@@ -27,7 +27,7 @@ struct KeptPurge {
 enum KeptEvent {
     Done,
     Count(u32),
-    Got(Part),
+    Got(ListPart),
     Number(u32),
     ModesAre(u32),
     CountsAre(u32),
@@ -36,13 +36,13 @@ enum KeptEvent {
     Purge(u32),
     Part(u32),
     Wait,
-    Flush(Part),
+    Flush(ListPart),
     Tick,
     LineEnd(u32),
     ClockEnd,
     CallerEnd,
     PhaseEnd,
-    Hangup(Part),
+    Hangup(ListPart),
 }
 
 /// An entry that names what stands in lists.
@@ -58,19 +58,19 @@ struct KeptEntry {
 /// What entries tell, in a list for each kind of it.
 #[derive(Drop)]
 struct Lists {
-    bytes: Store<u8>,
-    characters: Store<Flagged>,
-    modes: Store<Modes>,
-    counts: Store<Counts>,
-    purges: Store<KeptPurge>,
-    sents: Store<u64>,
+    bytes: KeptList<u8>,
+    characters: KeptList<Flagged>,
+    modes: KeptList<Modes>,
+    counts: KeptList<Counts>,
+    purges: KeptList<KeptPurge>,
+    sents: KeptList<u64>,
 }
 
 /// What happened on a port, in order. An entry takes 28 bytes; the bytes, characters, modes and counts
 /// that all tell stand in a list each.
 #[derive(Drop)]
 pub struct Journal {
-    entries: Store<KeptEntry>,
+    entries: KeptList<KeptEntry>,
     lists: Lists,
 }
 
@@ -238,14 +238,14 @@ impl Journal {
         ensures { result ≡ record { items = []; spare = 0; spare_bytes = 0; spare_characters = 0 } }
     {
         Journal {
-            entries: Store::new(alloc),
+            entries: KeptList::new(alloc),
             lists: Lists {
-                bytes: Store::new(alloc),
-                characters: Store::new(alloc),
-                modes: Store::new(alloc),
-                counts: Store::new(alloc),
-                purges: Store::new(alloc),
-                sents: Store::new(alloc),
+                bytes: KeptList::new(alloc),
+                characters: KeptList::new(alloc),
+                modes: KeptList::new(alloc),
+                counts: KeptList::new(alloc),
+                purges: KeptList::new(alloc),
+                sents: KeptList::new(alloc),
             },
         }
     }

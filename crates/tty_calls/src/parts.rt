@@ -2,7 +2,7 @@
 
 ghost use Rattle.std.specs.Prelude.{◌≡◌, ◌≤◌, ◌<◌, ◌-◌, Some, [], ◌∷◌, ◌++◌, IfOk, OnOk, OnErr, length, slice_get};
 ghost use Rattle.tty_base.specs.Contents.{Contents};
-ghost use Rattle.tty_calls.specs.Parts.{IsPartOf, part_of};
+ghost use Rattle.tty_calls.specs.Parts.{IsListPart, part_of};
 
 use std::alloc::Global;
 use std::marker::Model;
@@ -10,15 +10,15 @@ use tty_base::NoMemory;
 
 /// A part of a list: where it begins, and how many elements it has.
 #[derive(Clone, Copy)]
-pub(crate) struct Part {
+pub(crate) struct ListPart {
     pub(crate) first: u32,
     pub(crate) count: u32,
 }
 
 /// The part of a list.
 #[inline(always)]
-pub(crate) fn part_in<T>(list: &[T], part: Part) -> &[T]
-    requires { IsPartOf (length list.now) part }
+pub(crate) fn part_in<T>(list: &[T], part: ListPart) -> &[T]
+    requires { IsListPart (length list.now) part }
     ensures { result.now ≡ part_of list.now part }
 {
     let first = part.first as usize;
@@ -27,7 +27,7 @@ pub(crate) fn part_in<T>(list: &[T], part: Part) -> &[T]
 
 /// Adds elements to a list, and answers which part of it they are. A part ends below 2^32, and more is
 /// want of memory.
-pub(crate) fn keep<T: Copy>(list: &mut Vec<T>, more: &[T]) -> Result<Part, NoMemory>
+pub(crate) fn keep<T: Copy>(list: &mut Vec<T>, more: &[T]) -> Result<ListPart, NoMemory>
     ensures list { OnOk result (list.new.items ≡ list.old.items ++ more.now) }
     ensures part { IfOk result (λ part. part ≡ record { first = length list.old.items; count = length more.now }) }
     ensures err { OnErr result (list.new.items ≡ list.old.items) }
@@ -36,17 +36,17 @@ pub(crate) fn keep<T: Copy>(list: &mut Vec<T>, more: &[T]) -> Result<Part, NoMem
         return Err(NoMemory);
     };
     list.extend_from_slice(more)?;
-    Ok(Part { first, count })
+    Ok(ListPart { first, count })
 }
 
 /// A list with reserved room, of fewer than 2^32 elements.
 #[derive(Drop)]
-pub(crate) struct Store<T> {
+pub(crate) struct KeptList<T> {
     items: Vec<T>,
     spare: u32,
 }
 
-impl<T> Model for Store<T> {
+impl<T> Model for KeptList<T> {
     ghost use Rattle.std.specs.Prelude.{◌+◌, ◌≤◌, ◌<◌, ◌^◌, vec_len, vec_capacity};
     ghost use Rattle.tty_base.specs.Contents.{Contents};
 
@@ -58,12 +58,12 @@ impl<T> Model for Store<T> {
         (vec_len s.items + s.spare ≤ vec_capacity s.items) × (vec_len s.items + s.spare < 2 ^ 32) };
 }
 
-impl<T> Store<T> {
+impl<T> KeptList<T> {
     /// An empty list, without room. It takes no memory.
-    pub(crate) fn new(alloc: Global) -> Store<T>
+    pub(crate) fn new(alloc: Global) -> KeptList<T>
         ensures { result ≡ record { items = []; spare = 0 } }
     {
-        Store {
+        KeptList {
             items: Vec::new(alloc),
             spare: 0,
         }
@@ -137,10 +137,10 @@ impl<T> Store<T> {
     }
 }
 
-impl<T: Copy> Store<T> {
+impl<T: Copy> KeptList<T> {
     /// Adds elements in room that was reserved, and answers which part of the list they are.
     #[inline(always)]
-    pub(crate) fn keep(&mut self, more: &[T]) -> Part
+    pub(crate) fn keep(&mut self, more: &[T]) -> ListPart
         requires { length more.now ≤ self.old.spare }
         ensures list { self.new
             ≡ record { items = self.old.items ++ more.now; spare = self.old.spare - length more.now } }
@@ -150,7 +150,7 @@ impl<T: Copy> Store<T> {
         let count = more.len() as u32;
         self.spare -= count;
         match self.items.extend_from_slice(more) {
-            Ok(()) => Part { first, count },
+            Ok(()) => ListPart { first, count },
             Err(_) => unreachable!(),
         }
     }

@@ -9,8 +9,8 @@ use Rattle.tty_terminal.specs.Terminals.{Terminal}
 use Rattle.tty_terminal.specs.Receiving.{accepts, after_character, after_characters, AcceptsAll}
 use Rattle.tty_terminal.specs.Kept.{kept}
 use Rattle.tty_device.specs.Kept.{Taken, flushed, dropped, chars_of, dropped_of}
-use Rattle.tty_device.specs.Devices.{DeviceState, Drops, DropsWhere, Flushes, FlushesWhere}
-use Rattle.tty_device.specs.Acts.{HandsOver, DropsOut}
+use Rattle.tty_device.specs.Devices.{MOST_FLUSHED, DeviceState, DropsShown, DropsWhere, FlushesShown, FlushesWhere}
+use Rattle.tty_device.specs.Acts.{FlushesLook, DropsOut}
 use Rattle.tty_device.proofs.Keeping.{column_fits}
 use Rattle.tty_device.proofs.Noting.{more_flushed, more_dropped, count_flushed}
 
@@ -27,7 +27,7 @@ kept_column t u is = subst (λ (v : Terminal). column_in v.disc < 2 ^ 32) (sym i
 
 -- what is noted of the characters that were flushed
 module _ (t u : Terminal) (f g : TakerState Flagged) (cs : List Flagged) (most n : ℕ)
-    (h : HandsOver t u f g cs most n) where
+    (h : FlushesLook t u f g cs most n) where
   pub flushed_callers : length u.callers ≡ length t.callers
   flushed_callers = ap (λ (v : Terminal). length v.callers) h.left ∙ ap length (same_callers t cs)
 
@@ -46,9 +46,9 @@ module _ (t u : Terminal) (f g : TakerState Flagged) (cs : List Flagged) (most n
       → t ≡ d.terminal
       → d.shown ≡ f.floor
       → length d.taken ≡ length f.taken
-      → most ≡ min asked 256
+      → most ≡ min asked MOST_FLUSHED
       → v ≡ record d { terminal = u; taken = d.taken ++ map flushed cs; shown = g.floor }
-      → Flushes d v asked n
+      → FlushesShown d v asked n
   flushes_from d v asked same shown taken few is =
       let looked : f.floor ≤ g.floor = h.looked in
       record {
@@ -70,7 +70,7 @@ module _ (t u : Terminal) (f g : TakerState Flagged) (cs : List Flagged) (most n
 
 pub flushes_where : (b : Bool) (d v : DeviceState) (asked n : ℕ)
     → b ≡ false
-    → Flushes d v asked n
+    → FlushesShown d v asked n
     → FlushesWhere b d v asked n
 flushes_where b d v asked n is h = subst (λ (x : Bool). FlushesWhere x d v asked n) (sym is) h
 
@@ -86,7 +86,7 @@ module _ (f g : TakerState Flagged) (xs ys : List Taken) (h : DropsOut f g xs ys
       → chars_of xs ≡ f.taken
       → v.taken ≡ ys
       → v.shown ≡ g.floor
-      → Drops d v
+      → DropsShown d v
   drops_from d v shown taken so_far taken' shown' =
       let looked : f.floor ≤ h.tail = h.looked in
       let all : length f.taken + length h.chars ≡ h.tail = h.all in
@@ -102,7 +102,7 @@ module _ (f g : TakerState Flagged) (xs ys : List Taken) (h : DropsOut f g xs ys
         shown = omega (arith, last, shown');
       }
 
-pub drops_where : (b : Bool) (d v : DeviceState) → b ≡ true → Drops d v → DropsWhere b d v
+pub drops_where : (b : Bool) (d v : DeviceState) → b ≡ true → DropsShown d v → DropsWhere b d v
 drops_where b d v is h = subst (λ (x : Bool). DropsWhere x d v) (sym is) h
 
 pub keeps_where : (b : Bool) (d v : DeviceState) → b ≡ false → v.taken ≡ d.taken → v.shown ≡ d.shown → DropsWhere b d v

@@ -4,6 +4,7 @@ use Rattle.std.proofs.Common.{Some, length, slice_set, refl, sym, ◌∙◌, ap,
 use Rattle.std.proofs.lemmas.Bool.Decides.{nat_tests}
 use Rattle.std.proofs.lemmas.List.{length-set}
 use Rattle.std.proofs.lemmas.Bool.{and_from, cond-true, cond-false}
+use Rattle.tty_base.specs.Sizes.{MOST_HANDLES}
 use Rattle.tty_calls.specs.Plain.{PlainCall, handle_of}
 use Rattle.tty_terminal.specs.declared.callers.CallerState.{CallerState}
 use Rattle.tty_terminal.specs.declared.rooms.Met.{Met}
@@ -59,16 +60,17 @@ lt-ltb a b lt = grind (arith, nat_tests)
 
 -- a call of a caller that is there, on a number that a handle can have
 module _ (d : DeviceState) (c : ℕ) (call : PlainCall) (known : c < length d.terminal.callers)
-    (number : handle_of call < 32) where
+    (number : handle_of call < MOST_HANDLES) where
   pub outcome_is : outcome_for d c call ≡ outcome d.terminal (state_for d c call) call
   outcome_is =
       cond-false (not (is_known d c)) _ _ (ap not (lt-ltb c (length d.terminal.callers) known))
-      ∙ cond-false (not (nat_lt (handle_of call) 32)) _ _ (ap not (lt-ltb (handle_of call) 32 number))
+      ∙ cond-false (not (nat_lt (handle_of call) MOST_HANDLES)) _ _
+      (ap not (lt-ltb (handle_of call) MOST_HANDLES number))
 
   left_is : after_call d c call ≡ after_outcome d c call (outcome d.terminal (state_for d c call) call)
-  left_is = cond-true (is_known d c && nat_lt (handle_of call) 32) _ _
-      (and_from (is_known d c) (nat_lt (handle_of call) 32) (lt-ltb c (length d.terminal.callers) known)
-      (lt-ltb (handle_of call) 32 number))
+  left_is = cond-true (is_known d c && nat_lt (handle_of call) MOST_HANDLES) _ _
+      (and_from (is_known d c) (nat_lt (handle_of call) MOST_HANDLES) (lt-ltb c (length d.terminal.callers) known)
+      (lt-ltb (handle_of call) MOST_HANDLES number))
 
   -- what is noted once it met something
   pub call_left : (asker : Asker) (m : Met) (u : Terminal)

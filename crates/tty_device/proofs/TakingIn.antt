@@ -1,5 +1,5 @@
 -- Bytes that are put and handed over in one call.
-use Rattle.std.proofs.Common.{◌≡◌, ℕ, ◌+◌, ◌-◌, ◌<◌, ◌≤◌, ◌^◌, min, max, false, List, [], ◌++◌}
+use Rattle.std.proofs.Common.{◌≡◌, ℕ, ◌+◌, ◌-◌, ◌<◌, ◌≤◌, ◌^◌, max, false, List, [], ◌++◌}
 use Rattle.std.proofs.Common.{length, take, drop, refl, sym, ◌∙◌, ap, subst, arith, append_assoc}
 use Rattle.std.specs.Prelude.{Option, Some, IfSome}
 use Rattle.std.proofs.lemmas.List.{length-append, length-map, length-take-le}
@@ -15,36 +15,36 @@ use Rattle.flip_buffer.specs.Packed.{with_flag}
 use Rattle.tty_terminal.specs.Terminals.{Terminal}
 use Rattle.tty_terminal.specs.Receiving.{accepts, after_characters, AcceptsAll}
 use Rattle.tty_terminal.specs.Kept.{kept}
-use Rattle.tty_device.specs.Lines.{LineState, IsFull, after_put, PutsAndPushes}
-use Rattle.tty_device.specs.Acts.{HandsOver, IsClear, Gives}
-use Rattle.tty_device.specs.Devices.{DeviceState, TakesIn, TakesInWhere}
+use Rattle.tty_device.specs.Lines.{PutEnd, HasNoRoom, after_put, PutsAndPushes}
+use Rattle.tty_device.specs.Acts.{FlushesLook, IsClear, PassesBytes}
+use Rattle.tty_device.specs.Devices.{MOST_FLUSHED, DeviceState, TakesIn, TakesInWhere}
 
 -- ---- what the line puts
 
 -- bytes are put, and then pushed
-pub puts_then : (old l m : LineState) (flag : Flag) (bytes : List ℕ) (n : ℕ)
+pub puts_then : (old l m : PutEnd) (flag : Flag) (bytes : List ℕ) (n : ℕ)
     → n ≤ length bytes
     → l ≡ record (after_put flag bytes n old) { known = l.known }
     → old.known ≤ l.known
-    → (n < length bytes → IsFull l.sent l.known old.capacity)
+    → (n < length bytes → HasNoRoom l.sent l.known old.capacity)
     → m ≡ record l { pushed = l.sent }
     → PutsAndPushes old m flag bytes n
 puts_then old l m flag bytes n within put known full push =
-    let sent : m.sent ≡ l.sent = ap (λ (x : LineState). x.sent) push in
-    let same : m.known ≡ l.known = ap (λ (x : LineState). x.known) push in
+    let sent : m.sent ≡ l.sent = ap (λ (x : PutEnd). x.sent) push in
+    let same : m.known ≡ l.known = ap (λ (x : PutEnd). x.known) push in
     record {
       within = within;
       after =
           push
-          ∙ (ap (λ (x : LineState). record x { pushed = l.sent }) put
+          ∙ (ap (λ (x : PutEnd). record x { pushed = l.sent }) put
           ∙ (λ i. record (after_put flag bytes n old) { pushed = sym sent i; known = sym same i }));
       known = omega (arith, known, same);
       full = λ less.
-          subst (λ (z : List Flagged × ℕ). IsFull z.0 z.1 old.capacity) (λ i. (sym sent i, sym same i)) (full less);
+          subst (λ (z : List Flagged × ℕ). HasNoRoom z.0 z.1 old.capacity) (λ i. (sym sent i, sym same i)) (full less);
     }
 
 -- more was known before they were put
-pub puts_from : (old w m : LineState) (flag : Flag) (bytes : List ℕ) (n : ℕ)
+pub puts_from : (old w m : PutEnd) (flag : Flag) (bytes : List ℕ) (n : ℕ)
     → w ≡ record old { known = w.known }
     → old.known ≤ w.known
     → PutsAndPushes w m flag bytes n
@@ -55,10 +55,10 @@ puts_from old w m flag bytes n is rises puts =
       within = puts.within;
       after =
           puts.after
-          ∙ ap (λ (x : LineState). record (after_put flag bytes n x) { pushed = m.sent; known = m.known }) is;
+          ∙ ap (λ (x : PutEnd). record (after_put flag bytes n x) { pushed = m.sent; known = m.known }) is;
       known = omega (arith, rises, known);
       full = λ less.
-          subst (λ (k : ℕ). IsFull m.sent m.known k) (ap (λ (x : LineState). x.capacity) is) (puts.full less);
+          subst (λ (k : ℕ). HasNoRoom m.sent m.known k) (ap (λ (x : PutEnd). x.capacity) is) (puts.full less);
     }
 
 -- a count that has room is no higher after none
@@ -66,9 +66,9 @@ none_more : (count : ℕ) → count < 2 ^ 64 → count_after count 0 ≡ count
 none_more count small = omega (arith, small)
 
 -- all of them are put, where they are good and there is room
-pub puts_all : (w m : LineState) (f g : TakerState Flagged) (p q : PutterState Flagged) (flag : Flag) (bytes : List ℕ)
+pub puts_all : (w m : PutEnd) (f g : TakerState Flagged) (p q : PutterState Flagged) (flag : Flag) (bytes : List ℕ)
     (n : ℕ)
-    → Gives f g p q bytes n
+    → PassesBytes f g p q bytes n
     → flag ≡ Normal
     → w.overruns < 2 ^ 64
     → w
@@ -95,17 +95,17 @@ puts_all w m f g p q flag bytes n gives good small was is =
     let none : length bytes - length bytes ≡ 0 = omega arith in
     let same : count_after w.overruns (length bytes - length bytes) ≡ w.overruns =
     ap (count_after w.overruns) none ∙ none_more w.overruns small in
-    let sent : m.sent ≡ q.sent = ap (λ (x : LineState). x.sent) is in
+    let sent : m.sent ≡ q.sent = ap (λ (x : PutEnd). x.sent) is in
     let put : q.sent ≡ w.sent ++ with_flag flag (take (length bytes) bytes) =
-    gives.sent ∙ (λ i. ap (λ (x : LineState). x.sent) (sym was) i ++ with_flag (sym good i) (sym all i)) in
-    let before : w.known ≡ p.floor = ap (λ (x : LineState). x.known) was in
-    let after : m.known ≡ q.floor = ap (λ (x : LineState). x.known) is in
+    gives.sent ∙ (λ i. ap (λ (x : PutEnd). x.sent) (sym was) i ++ with_flag (sym good i) (sym all i)) in
+    let before : w.known ≡ p.floor = ap (λ (x : PutEnd). x.known) was in
+    let after : m.known ≡ q.floor = ap (λ (x : PutEnd). x.known) is in
     let rises : p.floor ≤ q.floor = gives.known in
     record {
       within = omega arith;
       after = is ∙ (λ i. record {
-        ring = (gives.same ∙ ap (λ (x : LineState). x.ring) (sym was)) i;
-        capacity = (gives.holds ∙ ap (λ (x : LineState). x.capacity) (sym was)) i;
+        ring = (gives.same ∙ ap (λ (x : PutEnd). x.ring) (sym was)) i;
+        capacity = (gives.holds ∙ ap (λ (x : PutEnd). x.capacity) (sym was)) i;
         sent = put i;
         pushed = (gives.pushed ∙ sym sent) i;
         overruns = sym same i;
@@ -116,27 +116,6 @@ puts_all w m f g p q flag bytes n gives good small was is =
     }
 
 -- ---- what the flip buffer has
-
--- what was handed over from a later standing was handed over from an earlier one
-pub handed_from : (t u : Terminal) (f e g : TakerState Flagged) (cs : List Flagged) (most n : ℕ)
-    → e.ring ≡ f.ring
-    → e.taken ≡ f.taken
-    → f.floor ≤ e.floor
-    → HandsOver t u e g cs most n
-    → HandsOver t u f g cs most (length cs)
-handed_from t u f e g cs most n ring taken rises h =
-    let looked : e.floor ≤ g.floor = h.looked in
-    let many : length e.taken ≡ length f.taken = ap length taken in
-    record {
-      counted = refl;
-      ring = h.ring ∙ ring;
-      moved = h.moved ∙ ap (λ (z : List Flagged). z ++ cs) taken;
-      looked = omega (arith, rises, looked);
-      few = subst (λ (k : ℕ). length cs ≤ min most (g.floor - k)) many h.few;
-      accepted = h.accepted;
-      left = h.left;
-      all = λ less. h.all (subst (λ (k : ℕ). length cs < min most (g.floor - k)) (sym many) less);
-    }
 
 -- what passed, and what of the bytes was kept after it
 module _ (f g : TakerState Flagged) (p q : PutterState Flagged) (bytes : List ℕ) (n : ℕ)
@@ -150,7 +129,7 @@ module _ (f g : TakerState Flagged) (p q : PutterState Flagged) (bytes : List �
   sent_is : q.sent ≡ passed
   sent_is = ap (λ (x : PutterState Flagged). x.sent) passes.putter
 
-  pub passed_all : length bytes ≤ n → Gives f g p q bytes n
+  pub passed_all : length bytes ≤ n → PassesBytes f g p q bytes n
   passed_all whole =
       let known : p.floor ≡ length p.sent = clear.clear.known in
       let loaded : q.floor ≡ length passed = ap (λ (x : PutterState Flagged). x.floor) passes.putter in
@@ -175,7 +154,7 @@ module _ (f g : TakerState Flagged) (p q : PutterState Flagged) (bytes : List �
       → r
       ≡ record q { sent = q.sent ++ good_characters (drop n bytes); pushed = q.sent ++ good_characters (drop n bytes) }
       → h ≡ record g { peeked = []; floor = max g.floor (length q.sent + length (drop n bytes)) }
-      → Gives f h p r bytes n
+      → PassesBytes f h p r bytes n
   passed_some h r put told =
       let rest : List Flagged = good_characters (drop n bytes) in
       let known : p.floor ≡ length p.sent = clear.clear.known in
@@ -214,15 +193,15 @@ module _ (f g : TakerState Flagged) (p q : PutterState Flagged) (bytes : List �
 -- those that the discipline accepted of these were handed over
 pub handed_straight : (t u : Terminal) (f g : TakerState Flagged) (p q : PutterState Flagged) (bytes : List ℕ) (n : ℕ)
     (cs : List Flagged)
-    → Gives f g p q bytes n
+    → PassesBytes f g p q bytes n
     → IsClear f p (length bytes)
-    → length bytes ≤ 256
+    → length bytes ≤ MOST_FLUSHED
     → n ≤ length bytes
     → cs ≡ take n (good_characters bytes)
     → (accepted : AcceptsAll t cs)
     → u ≡ kept (after_characters t cs)
     → (n < length bytes → accepts u ≡ false)
-    → HandsOver t u f g cs 256 (length cs)
+    → FlushesLook t u f g cs MOST_FLUSHED (length cs)
 handed_straight t u f g p q bytes n cs gives clear few within are accepted left stops =
     let taken : length f.taken ≡ length p.sent = clear.clear.taken in
     let all : length q.sent ≡ length p.sent + length (good_characters bytes) =
@@ -243,17 +222,17 @@ handed_straight t u f g p q bytes n cs gives clear few within are accepted left 
     }
 
 -- an end that puts in stays that of the same buffer
-pub line_stays : (line : Option LineState) (r s : TableId)
+pub line_stays : (line : Option PutEnd) (r s : TableId)
     → s ≡ r
     → IfSome line (λ l. l.ring ≡ r)
     → IfSome line (λ l. l.ring ≡ s)
 line_stays line r s same h = subst (λ (x : TableId). IfSome line (λ l. l.ring ≡ x)) (sym same) h
 
 -- a device that has an end takes in what it takes in by that end
-pub takes_in_where : (o : Option LineState) (l : LineState) (old new : DeviceState) (flag : Flag) (bytes : List ℕ)
+pub takes_in_where : (o : Option PutEnd) (l : PutEnd) (old new : DeviceState) (flag : Flag) (bytes : List ℕ)
     (n : ℕ)
     → o ≡ Some l
     → TakesIn old new l flag bytes n
     → TakesInWhere o old new flag bytes (Some n)
 takes_in_where o l old new flag bytes n is h =
-    subst (λ (x : Option LineState). TakesInWhere x old new flag bytes (Some n)) (sym is) (n, refl, h)
+    subst (λ (x : Option PutEnd). TakesInWhere x old new flag bytes (Some n)) (sym is) (n, refl, h)

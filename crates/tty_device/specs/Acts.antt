@@ -1,5 +1,6 @@
 -- What the parts of a method need, and what they come to: for private functions alone.
-use Rattle.std.specs.Prelude.{◌≡◌, ℕ, ◌<◌, ◌≤◌, ◌+◌, ◌-◌, ◌^◌, min, false, List, ◌++◌, length, map, take, slice_set}
+use Rattle.std.specs.Prelude.{◌≡◌, ℕ, ◌<◌, ◌≤◌, ◌+◌, ◌-◌, min, false, List, ◌++◌, length, map, take, slice_set}
+use Rattle.tty_base.specs.Sizes.{MOST_SENT}
 use Rattle.tty_base.specs.Characters.{good_characters}
 use Rattle.tty_base.specs.declared.characters.Flag.{Flag}
 use Rattle.tty_base.specs.declared.characters.Flagged.{Flagged}
@@ -15,8 +16,8 @@ use Rattle.tty_device.specs.declared.askers.Asker.{Asker}
 use Rattle.tty_device.specs.declared.askers.Verb.{Verb}
 use Rattle.tty_device.specs.Askers.{state_of, verb_of}
 use Rattle.tty_device.specs.Kept.{Taken, dropped}
-use Rattle.tty_device.specs.Devices.{caller_waiting}
-use Rattle.tty_device.specs.Lines.{LineState, PutsAndPushes}
+use Rattle.tty_device.specs.Devices.{MOST_FLUSHED, caller_waiting}
+use Rattle.tty_device.specs.Lines.{PutEnd, PutsAndPushes}
 
 -- what is noted of a caller once its call has met something
 abbrev pub settled : Terminal → (c : ℕ) → Asker → PlainCall → Met → Terminal
@@ -41,7 +42,7 @@ pub record DropsOut (old new : TakerState Flagged) (noted noted' : List Taken) :
   pub shown : tail ≤ new.floor
 
 -- these were taken, and received
-pub record HandsOver (t u : Terminal) (old new : TakerState Flagged) (chars : List Flagged)
+pub record FlushesLook (t u : Terminal) (old new : TakerState Flagged) (chars : List Flagged)
     (most count : ℕ) : Type 0 where
   pub counted : count ≡ length chars
   pub ring : new.ring ≡ old.ring
@@ -58,23 +59,24 @@ pub record IsClear (f : TakerState Flagged) (p : PutterState Flagged) (more : �
   pub clear : NothingWaits p f
   pub passes : more ≤ f.capacity
   pub fits : more ≤ p.capacity
-  pub small : length p.sent + more ≤ 2 ^ 63
+  pub small : length p.sent + more ≤ MOST_SENT
 
 -- good characters of these bytes were put and shown, and so many of them taken, where nothing waited
-pub record Gives (f g : TakerState Flagged) (p q : PutterState Flagged) (bytes : List ℕ) (count : ℕ) : Type 0 where
-  pub ring : g.ring ≡ f.ring
-  pub moved : g.taken ≡ f.taken ++ good_characters (take count bytes)
-  pub looked : f.floor ≤ g.floor
-  pub shown : g.floor ≡ length q.sent
-  pub same : q.ring ≡ p.ring
-  pub holds : q.capacity ≡ p.capacity
-  pub sent : q.sent ≡ p.sent ++ good_characters bytes
-  pub pushed : q.pushed ≡ q.sent
-  pub known : p.floor ≤ q.floor
+pub record PassesBytes (f g : TakerState Flagged) (p q : PutterState Flagged) (bytes : List ℕ) (count : ℕ) : Type 0
+  where
+    pub ring : g.ring ≡ f.ring
+    pub moved : g.taken ≡ f.taken ++ good_characters (take count bytes)
+    pub looked : f.floor ≤ g.floor
+    pub shown : g.floor ≡ length q.sent
+    pub same : q.ring ≡ p.ring
+    pub holds : q.capacity ≡ p.capacity
+    pub sent : q.sent ≡ p.sent ++ good_characters bytes
+    pub pushed : q.pushed ≡ q.sent
+    pub known : p.floor ≤ q.floor
 
 -- bytes were put and pushed, and a look showed all of them; these were taken, and received
-pub record HandsIn (t u : Terminal) (f g : TakerState Flagged) (old new : LineState) (chars : List Flagged)
+pub record HandsIn (t u : Terminal) (f g : TakerState Flagged) (old new : PutEnd) (chars : List Flagged)
     (flag : Flag) (bytes : List ℕ) (count : ℕ) : Type 0 where
   pub puts : PutsAndPushes old new flag bytes count
-  pub hands : HandsOver t u f g chars 256 (length chars)
+  pub hands : FlushesLook t u f g chars MOST_FLUSHED (length chars)
   pub seen : length new.sent ≤ g.floor

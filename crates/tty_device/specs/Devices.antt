@@ -2,6 +2,7 @@
 use Rattle.std.specs.Prelude.{◌≡◌, ℕ, ◌+◌, ◌-◌, ◌<◌, ◌≤◌, ◌==◌, min, max, nat_lt, Bool, true, false}
 use Rattle.std.specs.Prelude.{not, ◌&&◌, ◌||◌, List, [], ◌++◌, length, map, drop, replicate, Option}
 use Rattle.std.specs.Prelude.{None, Some, is_some, if◌then◌else◌, slice_get, slice_index_or, slice_set}
+use Rattle.tty_base.specs.Sizes.{MOST_HANDLES}
 use Rattle.atomic_table.specs.Seated.{TableId}
 use Rattle.tty_base.specs.declared.characters.Flag.{Flag}
 use Rattle.tty_base.specs.declared.characters.Flagged.{Flagged}
@@ -20,7 +21,7 @@ use Rattle.tty_device.specs.declared.askers.Verb.{Verb}
 use Rattle.tty_device.specs.declared.askers.Verb.TheVariants as verb
 use Rattle.tty_device.specs.Askers.{state_of, verb_of, asker_for}
 use Rattle.tty_device.specs.Kept.{Taken, flushed, dropped}
-use Rattle.tty_device.specs.Lines.{LineState, fresh_line, PutsAndPushes}
+use Rattle.tty_device.specs.Lines.{PutEnd, fresh_line, PutsAndPushes}
 
 pub record DeviceState : Type 0 where
   -- the terminal, of which nothing that only grows is kept but the tick: generation, taken, sent and phase are 0
@@ -34,7 +35,7 @@ pub record DeviceState : Type 0 where
   -- how many characters the latest look showed to be pushed, those that were taken among them
   pub shown : ℕ
   -- the end that puts in, where the device has it
-  pub line : Option LineState
+  pub line : Option PutEnd
 
 -- at first: where the end that puts in is an object of its own, and where the device has it
 abbrev pub fresh_device : TableId → (callers capacity : ℕ) → DeviceState
@@ -67,7 +68,7 @@ is_known d c = nat_lt c (length d.terminal.callers)
 abbrev pub outcome_for : DeviceState → (c : ℕ) → PlainCall → Outcome
 outcome_for d c call =
     if not (is_known d c) then refuses EINVAL d.terminal
-    else if not (nat_lt (handle_of call) 32) then refuses EBADF d.terminal
+    else if not (nat_lt (handle_of call) MOST_HANDLES) then refuses EBADF d.terminal
     else outcome d.terminal (state_for d c call) call
 
 -- who waits keeps the tick since which it does
@@ -89,7 +90,7 @@ after_outcome d c call (gives answer drops left) =
 -- what a call leaves, beside what is dropped; one of no caller, or on a number of no handle, changes nothing
 abbrev pub after_call : DeviceState → (c : ℕ) → PlainCall → DeviceState
 after_call d c call =
-    if is_known d c && nat_lt (handle_of call) 32
+    if is_known d c && nat_lt (handle_of call) MOST_HANDLES
     then after_outcome d c call (outcome d.terminal (state_for d c call) call)
     else d
 
@@ -100,7 +101,7 @@ after_cancel d c = if is_known d c then record d { terminal = with_caller d.term
 -- ---- what a purge and a hangup drop
 
 -- All that one look shows is dropped. A character that is pushed after it stays for the next.
-pub record Drops (old new : DeviceState) : Type 0 where
+pub record DropsShown (old new : DeviceState) : Type 0 where
   pub chars : List Flagged
   pub tail : ℕ
   pub looked : old.shown ≤ tail
@@ -110,7 +111,7 @@ pub record Drops (old new : DeviceState) : Type 0 where
 
 -- where an answer drops
 abbrev pub DropsWhere : Bool → DeviceState → DeviceState → Type 0
-DropsWhere true old new = Drops old new
+DropsWhere true old new = DropsShown old new
 DropsWhere false old new = (new.taken ≡ old.taken) × (new.shown ≡ old.shown)
 
 -- a device with what was taken and shown by now
@@ -126,14 +127,18 @@ after_hang_up d = record d { terminal = kept (after_hangup d.terminal) }
 abbrev pub is_stuck : DeviceState → Bool
 is_stuck d = (live_count d.terminal == 0) || not (accepts d.terminal)
 
--- The discipline receives what one look shows, from the oldest on, at most 256 and at most so many, as long as it
+-- the most characters of one flush
+abbrev pub MOST_FLUSHED : ℕ
+MOST_FLUSHED = 256
+
+-- The discipline receives what one look shows, from the oldest on, at most that many and at most so many, as long as it
 -- accepts.
-pub record Flushes (old new : DeviceState) (most count : ℕ) : Type 0 where
+pub record FlushesShown (old new : DeviceState) (most count : ℕ) : Type 0 where
   pub chars : List Flagged
   pub tail : ℕ
   pub counted : count ≡ length chars
   pub looked : old.shown ≤ tail
-  pub few : length chars ≤ min (min most 256) (tail - length old.taken)
+  pub few : length chars ≤ min (min most MOST_FLUSHED) (tail - length old.taken)
   pub accepted : AcceptsAll old.terminal chars
   pub left : new
       ≡ record old {
@@ -141,26 +146,26 @@ pub record Flushes (old new : DeviceState) (most count : ℕ) : Type 0 where
         taken = old.taken ++ map flushed chars;
         shown = tail;
       }
-  pub all : length chars < min (min most 256) (tail - length old.taken) → accepts new.terminal ≡ false
+  pub all : length chars < min (min most MOST_FLUSHED) (tail - length old.taken) → accepts new.terminal ≡ false
 
 -- where nothing can be flushed nothing changes
 abbrev pub FlushesWhere : Bool → DeviceState → DeviceState → (most count : ℕ) → Type 0
 FlushesWhere true old new most count = (count ≡ 0) × (new ≡ old)
-FlushesWhere false old new most count = Flushes old new most count
+FlushesWhere false old new most count = FlushesShown old new most count
 
 -- ---- both ends at hand
 
--- The end that the device has puts bytes and pushes, and then the device flushes 256 characters at most; its look
+-- The end that the device has puts bytes and pushes, and then the device flushes that many characters at most; its look
 -- shows all that was put.
-pub record TakesIn (old new : DeviceState) (line : LineState) (flag : Flag) (bytes : List ℕ) (count : ℕ) : Type 0 where
-  pub put : LineState
+pub record TakesIn (old new : DeviceState) (line : PutEnd) (flag : Flag) (bytes : List ℕ) (count : ℕ) : Type 0 where
+  pub put : PutEnd
   pub puts : PutsAndPushes line put flag bytes count
   pub handed : ℕ
-  pub flushes : FlushesWhere (is_stuck old) (record old { line = Some put }) new 256 handed
+  pub flushes : FlushesWhere (is_stuck old) (record old { line = Some put }) new MOST_FLUSHED handed
   pub seen : is_stuck old ≡ false → length put.sent ≤ new.shown
 
 -- a device that has no such end answers so, and changes nothing
-abbrev pub TakesInWhere : Option LineState → (old new : DeviceState) → Flag → (bytes : List ℕ) → (answer : Option ℕ)
+abbrev pub TakesInWhere : Option PutEnd → (old new : DeviceState) → Flag → (bytes : List ℕ) → (answer : Option ℕ)
     → Type 0
 TakesInWhere None old new flag bytes answer = (answer ≡ None) × (new ≡ old)
 TakesInWhere (Some line) old new flag bytes answer =

@@ -5,7 +5,7 @@ use Rattle.tty_device.specs.declared.devices.Device.TheInside.{Inside as DeviceI
 use Rattle.tty_device.specs.declared.lines.Line.TheInside.{Inside as LineInside}
 use Rattle.tty_device.specs.Kept.{chars_of, dropped_of}
 use Rattle.tty_device.specs.Devices.{DeviceState}
-use Rattle.tty_device.specs.Lines.{LineState}
+use Rattle.tty_device.specs.Lines.{PutEnd}
 
 abbrev pub device_of : DeviceInside → DeviceState
 device_of d =
@@ -29,7 +29,7 @@ pub record IsSound (d : DeviceInside) : Type 0 where
   pub dropped : d.dropped ≡ length (dropped_of d.taken.items)
   pub line : IfSome d.line (λ l. l.ring ≡ d.flip.ring)
 
-abbrev pub line_of : LineInside → LineState
+abbrev pub line_of : LineInside → PutEnd
 line_of l =
     record {
       ring = l.input.ring;

@@ -3,7 +3,6 @@
 ghost use Rattle.std.specs.Prelude.{◌≡◌, ◌<◌, IfOk, length, replicate, slice_index_or, slice_set};
 ghost use Rattle.tty_calls.specs.Plain.{call_of};
 ghost use Rattle.tty_device.specs.Askers.{verb_of, same_verb, is_bound_to, waits_with, asker_for, state_of};
-ghost use Rattle.tty_terminal.specs.Terminals.{idle_caller};
 
 use std::alloc::Global;
 use std::marker::Model;

@@ -1,6 +1,7 @@
 //! The port itself.
 
 ghost use Rattle.std.specs.Prelude.{◌≡◌, ◌≤◌, ◌<◌, ◌^◌, [], length, take, IfSome, IfOk, OnOk, OnErr};
+ghost use Rattle.tty_base.specs.Sizes.{COUNT_END, MOST_HANDLES, NUMBER_END};
 ghost use Rattle.tty_calls.specs.Plain.{call_of, handle_of};
 ghost use Rattle.ldisc_switch.specs.Disciplines.{column_in};
 ghost use Rattle.tty_terminal.specs.Meeting.{Meets, drops_of, room_for_characters};
@@ -8,10 +9,12 @@ ghost use Rattle.tty_terminal.specs.Calls.{outcome};
 ghost use Rattle.tty_terminal.specs.Steps.{left_by, with_caller};
 ghost use Rattle.tty_terminal.specs.Terminals.{idle_caller};
 ghost use Rattle.tty_device.specs.Askers.{state_of};
-ghost use Rattle.tty_device.specs.Acts.{settled, verbs_after, DropsOut, HandsOver};
+ghost use Rattle.tty_device.specs.Acts.{settled, verbs_after, DropsOut, FlushesLook};
 ghost use Rattle.tty_device.specs.Kept.{chars_of, dropped_of};
-ghost use Rattle.tty_device.specs.Devices.{DeviceState, fresh_device, fresh_whole, caller_waiting, outcome_for};
-ghost use Rattle.tty_device.specs.Devices.{after_call, after_cancel, Drops, DropsWhere, with_taken_of, after_hang_up};
+ghost use Rattle.tty_device.specs.Devices.{MOST_FLUSHED, DeviceState, fresh_device, fresh_whole};
+ghost use Rattle.tty_device.specs.Devices.{caller_waiting, outcome_for};
+ghost use Rattle.tty_device.specs.Devices.{after_call, after_cancel, DropsShown, DropsWhere, with_taken_of};
+ghost use Rattle.tty_device.specs.Devices.{after_hang_up};
 ghost use Rattle.tty_device.specs.Devices.{is_stuck, FlushesWhere, TakesInWhere, after_advance, wire_of, taken_count};
 ghost use Rattle.tty_device.specs.Devices.{at_front, without_wire_front, first_signal, without_first_signal};
 ghost use Rattle.tty_device.specs.Lines.{buffer_size, fresh_line};
@@ -26,20 +29,13 @@ use flow_control::Signals;
 use ldisc_switch::{Kind, fresh};
 use std::alloc::Global;
 use std::marker::Model;
+use tty_base::sizes::{LEAST_FLIP, MOST_FLIP, MOST_HANDLES};
 use tty_base::{Bytes, Chars, Errno, Flag, NoMemory, Signal};
 use tty_calls::{Answer, Call};
 use tty_terminal::{CallerState, Met, ROOM_FOR_CALL, Terminal};
 
-/// How many handles a port has at most.
-const MOST_HANDLES: u8 = 32;
-
 /// How many characters one flush takes at most.
 pub(crate) const MOST_FLUSHED: usize = 256;
-
-/// The fewest and the most characters that a flip buffer holds.
-const SMALLEST_BUFFER: usize = 64;
-
-const LARGEST_BUFFER: usize = 65536;
 
 /// A port that runs for ever: a terminal with its handles, both line disciplines and the end of the flip buffer that
 /// takes out.
@@ -81,7 +77,7 @@ impl Device {
         ensures device { IfOk result (λ made. made.0 ≡ fresh_device made.0.ring callers (buffer_size capacity)) }
         ensures line { IfOk result (λ made. made.1 ≡ fresh_line made.0.ring (buffer_size capacity)) }
     {
-        let capacity = capacity.min(LARGEST_BUFFER).max(SMALLEST_BUFFER);
+        let capacity = capacity.min(MOST_FLIP).max(LEAST_FLIP);
         let (input, output) = flip(alloc, capacity)?;
         let device = Device {
             terminal: Terminal::new(alloc, callers, capacity as u32)?,
@@ -165,7 +161,7 @@ impl Device {
     /// Hangs the port up, as vhangup(2) does, and drops what waits in the flip buffer.
     pub fn hang_up(&mut self) -> Result<(), NoMemory>
         ensures after { OnOk result (self.new ≡ with_taken_of self.new (after_hang_up self.old)) }
-        ensures drops { OnOk result (Drops self.old self.new) }
+        ensures drops { OnOk result (DropsShown self.old self.new) }
         ensures err { OnErr result (self.new ≡ self.old) }
     {
         let mut dropped = Chars::new(self.alloc);
@@ -289,9 +285,9 @@ fn drops(terminal: &Terminal, asker: &Asker, call: &Call) -> bool
 
 /// Makes a call. Without memory nothing changes.
 fn meet(terminal: &mut Terminal, alloc: Global, asker: &Asker, call: &Call) -> Result<Met, NoMemory>
-    requires number { handle_of (call_of call.now) < 32 }
-    requires few { terminal.old.terminal.generation < 2 ^ 31 }
-    requires column { column_in terminal.old.terminal.disc < 2 ^ 62 }
+    requires number { handle_of (call_of call.now) < MOST_HANDLES }
+    requires few { terminal.old.terminal.generation < NUMBER_END }
+    requires column { column_in terminal.old.terminal.disc < COUNT_END }
     ensures met { IfOk result
         (λ met. Meets (outcome terminal.old.terminal (state_of asker.now) (call_of call.now)) met) }
     ensures left { OnOk result (terminal.new.terminal
@@ -365,7 +361,7 @@ fn drop_shown(flip: &mut FlipOut, taken: &mut TakenChars, count: &mut u64, chars
 {
     let capacity = flip.capacity();
     let shown = flip.drop_all(capacity, chars);
-    let _most = flip.taken();
+    let _most = flip.taken(); // known: its bound
     taken.note(chars, Fate { dropped: true });
     *count += shown as u64;
 }
@@ -377,14 +373,14 @@ pub(crate) fn hand_over(
     chars: &mut Chars,
     most: usize,
 ) -> usize
-    requires few { most ≤ 256 }
+    requires few { most ≤ MOST_FLUSHED }
     requires empty { chars.old.items ≡ [] }
     requires spare { most ≤ chars.old.spare }
     requires wire { room_for_characters terminal.old.terminal most ≤ terminal.old.wire_room }
     requires signals { most ≤ terminal.old.signal_room }
     requires uncounted { terminal.old.terminal.taken ≡ 0 }
     requires column { column_in terminal.old.terminal.disc < 2 ^ 32 }
-    ensures { HandsOver terminal.old.terminal terminal.new.terminal flip.old flip.new chars.new.items most result }
+    ensures { FlushesLook terminal.old.terminal terminal.new.terminal flip.old flip.new chars.new.items most result }
 {
     let count = flip.look().min(most);
     flip.peek(count, chars);

@@ -2,18 +2,21 @@
 //! in it, good ones go past its memory.
 
 ghost use Rattle.std.specs.Prelude.{◌≡◌, ◌<◌, ◌≤◌, ◌+◌, ◌-◌, ◌^◌, max, [], ◌++◌, length, take, false, IsTrue};
+ghost use Rattle.tty_base.specs.Sizes.{MOST_SENT};
 ghost use Rattle.tty_base.specs.Characters.{good_characters};
 ghost use Rattle.tty_base.specs.declared.characters.Flag.TheVariants.{Normal};
 ghost use Rattle.ldisc_switch.specs.Disciplines.{column_in};
 ghost use Rattle.tty_terminal.specs.Kept.{kept};
 ghost use Rattle.tty_terminal.specs.Meeting.{room_for_characters};
 ghost use Rattle.tty_terminal.specs.Receiving.{accepts, after_characters, AcceptsAll};
-ghost use Rattle.tty_device.specs.Acts.{Gives, HandsIn, IsClear};
+ghost use Rattle.tty_device.specs.Devices.{MOST_FLUSHED};
+ghost use Rattle.tty_device.specs.Acts.{PassesBytes, HandsIn, IsClear};
 ghost use Rattle.tty_device.specs.Lines.{PutsAndPushes};
 
 use crate::devices::{MOST_FLUSHED, hand_over};
-use crate::lines::{Line, MOST_SENT};
+use crate::lines::Line;
 use flip_buffer::{FlipIn, FlipOut};
+use tty_base::sizes::MOST_SENT;
 use tty_base::{Chars, Flag, front_of, rest_of};
 use tty_terminal::Terminal;
 
@@ -37,9 +40,9 @@ pub(crate) fn hand_in(
 ) -> usize
     requires ring { line.old.ring ≡ flip.old.ring }
     requires empty { chars.old.items ≡ [] }
-    requires spare { 256 ≤ chars.old.spare }
-    requires wire { room_for_characters terminal.old.terminal 256 ≤ terminal.old.wire_room }
-    requires signals { 256 ≤ terminal.old.signal_room }
+    requires spare { MOST_FLUSHED ≤ chars.old.spare }
+    requires wire { room_for_characters terminal.old.terminal MOST_FLUSHED ≤ terminal.old.wire_room }
+    requires signals { MOST_FLUSHED ≤ terminal.old.signal_room }
     requires uncounted { terminal.old.terminal.taken ≡ 0 }
     requires column { column_in terminal.old.terminal.disc < 2 ^ 32 }
     ensures { HandsIn terminal.old.terminal terminal.new.terminal flip.old flip.new
@@ -47,7 +50,7 @@ pub(crate) fn hand_in(
 {
     line.waiting();
     if is_short_run(bytes, flag) && is_clear(flip, &line.input, bytes.len()) {
-        let _most = line.overruns();
+        let _most = line.overruns(); // known: its bound
         let received = receive_good(terminal, chars, bytes);
         give(flip, &mut line.input, bytes, received);
         return bytes.len();
@@ -60,7 +63,7 @@ pub(crate) fn hand_in(
 
 /// Whether these are good characters, and no more than one flush takes.
 fn is_short_run(bytes: &[u8], flag: Flag) -> bool
-    ensures few { IsTrue result → length bytes.now ≤ 256 }
+    ensures few { IsTrue result → length bytes.now ≤ MOST_FLUSHED }
     ensures good { IsTrue result → flag ≡ Normal }
 {
     bytes.len() <= MOST_FLUSHED && flag == Flag::Normal
@@ -68,7 +71,7 @@ fn is_short_run(bytes: &[u8], flag: Flag) -> bool
 
 /// Whether nothing waits, and there is room for so many.
 fn is_clear(flip: &FlipOut, input: &FlipIn, more: usize) -> bool
-    requires few { more ≤ 256 }
+    requires few { more ≤ MOST_FLUSHED }
     requires ring { input.now.ring ≡ flip.now.ring }
     ensures { IsTrue result → IsClear flip.now input.now more }
 {
@@ -77,10 +80,10 @@ fn is_clear(flip: &FlipOut, input: &FlipIn, more: usize) -> bool
 
 /// Whether both ends have room for so many.
 fn has_room(flip: &FlipOut, input: &FlipIn, more: usize) -> bool
-    requires few { more ≤ 256 }
+    requires few { more ≤ MOST_FLUSHED }
     ensures passes { IsTrue result → more ≤ flip.now.capacity }
     ensures fits { IsTrue result → more ≤ input.now.capacity }
-    ensures small { IsTrue result → length input.now.sent + more ≤ 2 ^ 63 }
+    ensures small { IsTrue result → length input.now.sent + more ≤ MOST_SENT }
 {
     more <= flip.capacity() && more <= input.capacity() && input.sent() <= MOST_SENT - more as u64
 }
@@ -88,11 +91,11 @@ fn has_room(flip: &FlipOut, input: &FlipIn, more: usize) -> bool
 /// Hands over the good characters of these bytes as far as the discipline accepts, in room that was reserved, and
 /// keeps those. Answers how many.
 fn receive_good(terminal: &mut Terminal, chars: &mut Chars, bytes: &[u8]) -> usize
-    requires few { length bytes.now ≤ 256 }
+    requires few { length bytes.now ≤ MOST_FLUSHED }
     requires empty { chars.old.items ≡ [] }
-    requires spare { 256 ≤ chars.old.spare }
-    requires wire { room_for_characters terminal.old.terminal 256 ≤ terminal.old.wire_room }
-    requires signals { 256 ≤ terminal.old.signal_room }
+    requires spare { MOST_FLUSHED ≤ chars.old.spare }
+    requires wire { room_for_characters terminal.old.terminal MOST_FLUSHED ≤ terminal.old.wire_room }
+    requires signals { MOST_FLUSHED ≤ terminal.old.signal_room }
     requires uncounted { terminal.old.terminal.taken ≡ 0 }
     requires column { column_in terminal.old.terminal.disc < 2 ^ 32 }
     ensures within { result ≤ length bytes.now }
@@ -112,7 +115,7 @@ fn receive_good(terminal: &mut Terminal, chars: &mut Chars, bytes: &[u8]) -> usi
 fn give(flip: &mut FlipOut, input: &mut FlipIn, bytes: &[u8], count: usize)
     requires clear { IsClear flip.old input.old (length bytes.now) }
     requires within { count ≤ length bytes.now }
-    ensures { Gives flip.old flip.new input.old input.new bytes.now count }
+    ensures { PassesBytes flip.old flip.new input.old input.new bytes.now count }
 {
     flip.pass(input, front_of(bytes, count));
     if count < bytes.len() {
@@ -125,7 +128,7 @@ fn give(flip: &mut FlipOut, input: &mut FlipIn, bytes: &[u8], count: usize)
 fn keep(flip: &mut FlipOut, input: &mut FlipIn, bytes: &[u8])
     requires ring { input.old.ring ≡ flip.old.ring }
     requires room { length input.old.sent + length bytes.now ≤ input.old.floor + input.old.capacity }
-    requires small { length input.old.sent + length bytes.now ≤ 2 ^ 63 }
+    requires small { length input.old.sent + length bytes.now ≤ MOST_SENT }
     ensures input { input.new
         ≡ record input.old {
           sent = input.old.sent ++ good_characters bytes.now;

@@ -1,16 +1,15 @@
 //! The end that puts characters in.
 
-ghost use Rattle.std.specs.Prelude.{◌≡◌, ◌+◌, ◌-◌, ◌≤◌, ◌<◌, ◌^◌, [], ◌++◌, length, take};
+ghost use Rattle.std.specs.Prelude.{◌≡◌, ◌+◌, ◌-◌, ◌≤◌, ◌<◌, [], ◌++◌, length, take};
+ghost use Rattle.tty_base.specs.Sizes.{MOST_SENT};
 ghost use Rattle.flow_control.specs.Counting.{count_after};
 ghost use Rattle.flip_buffer.specs.Packed.{with_flag};
-ghost use Rattle.tty_device.specs.Lines.{LineState, IsFull, Puts};
+ghost use Rattle.tty_device.specs.Lines.{PutEnd, HasNoRoom, Puts};
 
 use flip_buffer::FlipIn;
 use std::marker::Model;
+use tty_base::sizes::MOST_SENT;
 use tty_base::{Flag, Moves, Put, rest_of};
-
-/// How many characters can be put, ever: 100 years at three billion a second.
-pub(crate) const MOST_SENT: u64 = 9223372036854775808;
 
 /// The end of a port's flip buffer that puts characters in, with its count of overruns. It may be used on another
 /// thread than the port; each end knows of the other only what it loads.
@@ -21,9 +20,9 @@ pub struct Line {
 }
 
 impl Model for Line {
-    ghost use Rattle.tty_device.specs.Lines.{LineState};
+    ghost use Rattle.tty_device.specs.Lines.{PutEnd};
 
-    ghost Value = { LineState };
+    ghost Value = { PutEnd };
 
     ghost use Rattle.tty_device.specs.Inside.{line_of};
 
@@ -58,7 +57,7 @@ impl Line {
           known = self.new.known;
         } }
         ensures known { self.old.known ≤ self.new.known }
-        ensures full { result < length bytes.now → IsFull self.new.sent self.new.known self.old.capacity }
+        ensures full { result < length bytes.now → HasNoRoom self.new.sent self.new.known self.old.capacity }
     {
         let count = put_some(&mut self.input, bytes, flag);
         let refused = (bytes.len() - count) as u64;
@@ -102,8 +101,8 @@ impl Line {
 fn room_for_more(input: &mut FlipIn) -> u64
     ensures puts { Puts input.old input.new [] }
     ensures room { length input.new.sent + result ≤ input.new.floor + input.new.capacity }
-    ensures small { 0 < result → length input.new.sent + result ≤ 2 ^ 63 }
-    ensures full { result ≡ 0 → IsFull input.new.sent input.new.floor input.new.capacity }
+    ensures small { 0 < result → length input.new.sent + result ≤ MOST_SENT }
+    ensures full { result ≡ 0 → HasNoRoom input.new.sent input.new.floor input.new.capacity }
 {
     let waiting = input.waiting();
     let free = input.capacity() as u64 - waiting;
@@ -114,7 +113,7 @@ fn room_for_more(input: &mut FlipIn) -> u64
 fn put_run(input: &mut FlipIn, bytes: &[u8], flag: Flag) -> usize
     ensures within { result ≤ length bytes.now }
     ensures puts { Puts input.old input.new (with_flag flag (take result bytes.now)) }
-    ensures full { result ≡ 0 → 0 < length bytes.now → IsFull input.new.sent input.new.floor input.old.capacity }
+    ensures full { result ≡ 0 → 0 < length bytes.now → HasNoRoom input.new.sent input.new.floor input.old.capacity }
 {
     let room = room_for_more(input);
     let count = room.min(bytes.len() as u64) as usize;
@@ -128,7 +127,7 @@ fn put_run(input: &mut FlipIn, bytes: &[u8], flag: Flag) -> usize
 fn put_some(input: &mut FlipIn, bytes: &[u8], flag: Flag) -> usize
     ensures within { result ≤ length bytes.now }
     ensures puts { Puts input.old input.new (with_flag flag (take result bytes.now)) }
-    ensures full { result < length bytes.now → IsFull input.new.sent input.new.floor input.old.capacity }
+    ensures full { result < length bytes.now → HasNoRoom input.new.sent input.new.floor input.old.capacity }
 {
     let mut done = 0;
     while done < bytes.len() {

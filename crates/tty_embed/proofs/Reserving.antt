@@ -2,6 +2,7 @@
 use Rattle.std.proofs.Common.{◌≡◌, ℕ, ◌≤◌, ◌%◌, ◌^◌, min, Bool, true, false}
 use Rattle.std.proofs.Common.{if◌then◌else◌, List, length, map, take, ap, sym, ◌∙◌, arith}
 use Rattle.std.proofs.lemmas.List.{length-take, take_min}
+use Rattle.tty_base.specs.Sizes.{PIECE}
 use Rattle.tty_base.specs.declared.characters.Flagged.{Flagged}
 use Rattle.tty_modes.specs.declared.places.TheConstants.{ICANON}
 use Rattle.tty_modes.specs.Settings.{Settings, has_flag}
@@ -56,10 +57,10 @@ receipt_made modes tick c tty wire more tally signals heard wrapped output count
 
 -- so many characters are offered to a call
 pub offered_in : (bytes front : List ℕ) (n : ℕ)
-    → n ≡ min 64 (length bytes)
+    → n ≡ min PIECE (length bytes)
     → front ≡ take n bytes
     → map good front ≡ offered bytes
-offered_in bytes front n is first = ap (map good) (first ∙ (ap (λ (k : ℕ). take k bytes) is ∙ take_min 64 bytes))
+offered_in bytes front n is first = ap (map good) (first ∙ (ap (λ (k : ℕ). take k bytes) is ∙ take_min PIECE bytes))
 
 -- how many good characters a call receives, with room that was reserved for them
 pub receiving_counted : (modes : Settings) (tick : ℕ) (bytes : List ℕ) (cs : List Flagged) (tty : NTtyState)

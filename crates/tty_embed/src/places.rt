@@ -1,6 +1,6 @@
 //! Lists of bytes and signals that are filled, told and emptied again.
 
-ghost use Rattle.std.specs.Prelude.{◌≡◌, ◌≤◌, [], ◌++◌, length, drop, OnOk, OnErr};
+ghost use Rattle.std.specs.Prelude.{◌≡◌, ◌≤◌, [], ◌++◌, length, drop, OnOk};
 
 use std::alloc::Global;
 use std::mem::replace;

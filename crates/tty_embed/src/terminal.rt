@@ -16,13 +16,10 @@ use flow_control::{Signals, Tally, Wire};
 use n_tty::{CHARACTER_ROOM, NTty};
 use std::alloc::Global;
 use std::marker::Model;
-use tty_base::sizes::{MOST_READ, PIECE};
+use tty_base::sizes::{MOST_POSTED, MOST_READ, PIECE};
 use tty_base::{Bytes, Flag, Flagged, NoMemory, Signal, front_of};
 use tty_modes::places::IXON;
 use tty_modes::{Modes, set_word_bytes};
-
-/// How much room on the wire a piece of a write takes at most.
-const WRITE_ROOM: usize = 512;
 
 /// N_TTY with its modes, its output, what it counts, and its clock.
 ///
@@ -163,7 +160,7 @@ impl Tty {
         ensures after { OnOk result (self.new ≡ after_writing self.old bytes.now) }
         ensures err { OnErr result (self.new ≡ self.old) }
     {
-        self.wire.reserve(WRITE_ROOM)?;
+        self.wire.reserve(MOST_POSTED)?;
         let count = self.disc.write_piece(bytes, &self.modes, &mut self.wire);
         self.disc.wrap_column();
         Ok(count)

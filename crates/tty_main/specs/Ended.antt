@@ -1,6 +1,7 @@
 -- How the program ends: what `tty_run` promises of its status, said of the exit status.
 use Rattle.std.specs.Prelude.{◌≡◌, ◌≢◌, ◌⊎◌, ◌≤◌, ℕ, List, [], Option, None, IfSome, length, map, drop, string_bytes}
 use Rattle.std.specs.Prelude.{String}
+use Rattle.tty_base.specs.Sizes.{MOST_TEXT}
 use Rattle.tty_base.specs.Outside.{Rose, TookCount, LeavesRest}
 use Rattle.tty_one.specs.Endings.{AreKnown, AreRun, AreGen, AskCheck, AskConsoles, AskModem, AskJobs}
 use Rattle.tty_one.specs.Endings.{AskToPlay, AskToRead, AskVt, IsStatus, IsStatusOr, IsTold}
@@ -47,14 +48,16 @@ pub record IsEnded (Unread : Type 0) (words : List (List ℕ)) (faults faults' m
   pub none_derived : (AskModem words ⊎ AskJobs words → ⊥) → back.derived ≡ None
   pub rest_left : IfSome left (λ bytes. LeavesRest bytes rest)
   pub complete : IfSome left (λ bytes.
-      AskToPlay words → length bytes ≤ 4194304 → (Rose faults faults' → ⊥) → Completes bytes status)
+      AskToPlay words → length bytes ≤ MOST_TEXT → (Rose faults faults' → ⊥) → Completes bytes status)
   pub made : AreGen words → IsStatusOr 0 status
   pub unread : AreGen words → Unread
   pub judged : IfSome left
-      (λ bytes. AskCheck words → length bytes ≤ 4194304 → (Rose faults faults' → ⊥) → CompletesCheck bytes status)
+      (λ bytes. AskCheck words → length bytes ≤ MOST_TEXT → (Rose faults faults' → ⊥) → CompletesCheck bytes status)
   pub consoles : IfSome left
-      (λ bytes. AskConsoles words → length bytes ≤ 4194304 → (Rose faults faults' → ⊥) → CompletesConsoles bytes status)
+      (λ bytes.
+      AskConsoles words → length bytes ≤ MOST_TEXT → (Rose faults faults' → ⊥) → CompletesConsoles bytes status)
   pub modem_lines : IfSome left
-      (λ bytes. AskModem words → length bytes ≤ 4194304 → (Rose faults faults' → ⊥) → CompletesModemLines bytes status)
+      (λ bytes.
+      AskModem words → length bytes ≤ MOST_TEXT → (Rose faults faults' → ⊥) → CompletesModemLines bytes status)
   pub processes : IfSome left
-      (λ bytes. AskJobs words → length bytes ≤ 4194304 → (Rose faults faults' → ⊥) → CompletesProcesses bytes status)
+      (λ bytes. AskJobs words → length bytes ≤ MOST_TEXT → (Rose faults faults' → ⊥) → CompletesProcesses bytes status)

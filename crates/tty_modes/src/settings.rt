@@ -1,6 +1,6 @@
 //! Modes: which flags are set, and the control characters.
 
-ghost use Rattle.std.specs.Prelude.{◌≡◌, ◌≢◌, ◌↔◌, ◌≤◌, ◌<◌, ℕ, List, IsTrue, length, slice_set};
+ghost use Rattle.std.specs.Prelude.{◌≡◌, ◌≢◌, ◌↔◌, ◌<◌, ℕ, List, IsTrue, length, slice_set};
 ghost use Rattle.tty_modes.specs.Settings.{has_flag, character, sane_modes};
 ghost use Rattle.tty_modes.specs.Printed.{is_printed, are_unprinted};
 

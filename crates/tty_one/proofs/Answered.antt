@@ -17,11 +17,11 @@ use Rattle.tty_calls.specs.Sessions.{PlainScript, PlainPhase, PlainSession, scri
 use Rattle.tty_terminal.specs.Terminals.{Terminal}
 use Rattle.session_print.specs.Report.{answer_of_event, answer_by, answer_in}
 use Rattle.tty_base.specs.declared.lines.Overrun.{Overrun}
-use Rattle.journal_check.specs.Legal.{phase_at, name_at, has_script, first_step, steps_in, CallerMark}
-use Rattle.journal_check.specs.Legal.{answers, caller_ends, caller_marks, caller_marks_in}
-use Rattle.journal_check.specs.Legal.{answers_from, caller_part, IsFinishedFrom, IsLegal}
+use Rattle.legal_runs.specs.Legal.{phase_at, name_at, has_script, first_step, steps_in, CallerMark, answers}
+use Rattle.legal_runs.specs.Legal.{caller_ends, caller_marks, caller_marks_in, answers_from, caller_part}
+use Rattle.legal_runs.specs.Legal.{IsFinishedFrom, IsLegal}
 use Rattle.tty_one.specs.Outcome.{answers_to, IsAnsweredOnce}
-use Rattle.journal_check.proofs.NameLemmas.{first_next}
+use Rattle.legal_runs.proofs.NameLemmas.{first_next}
 
 -- how often a step is answered
 abbrev chosen : Bool → ℕ

@@ -1,16 +1,16 @@
 -- Job control does not look at the room behind the names of processes: a log is one of a session as well as of the bare
 -- session.
-use Rattle.std.proofs.Common.{◌≡◌, ◌≤◌, ℕ, zero, suc, ◌+◌, ◌==◌, ◌&&◌, ◌||◌, Bool, true, false, not, cond, List, []}
+use Rattle.std.proofs.Common.{◌≡◌, ℕ, zero, suc, ◌==◌, ◌&&◌, ◌||◌, Bool, true, false, not, List, []}
 use Rattle.std.proofs.Common.{◌∷◌}
-use Rattle.std.proofs.Common.{◌++◌, Option, None, Some, Result, Ok, Err, length, map, if◌then◌else◌, refl, sym, ap, ◌∙◌}
-use Rattle.std.proofs.Common.{subst, arith}
-use Rattle.std.specs.Prelude.{IsTrue, is_none, nat_le, ok_or, option_map, position, replicate, slice_get}
+use Rattle.std.proofs.Common.{Option, None, Some, Err, length, map, if◌then◌else◌, refl, sym, ap, ◌∙◌}
+use Rattle.std.proofs.Common.{subst}
+use Rattle.std.specs.Prelude.{is_none, nat_le, ok_or, option_map, position, replicate, slice_get}
 use Rattle.std.specs.Prelude.{slice_index_or}
 use Rattle.std.specs.Prelude.{slice_set, unwrap_or}
 use Rattle.std.specs.List.{list_any, range_with_len}
 use Rattle.std.specs.Option.{option_map_or, option_to_list}
 use Rattle.std.proofs.lemmas.List.{length-map}
-use Rattle.tty_base.specs.declared.counters.Errno.TheVariants.{EBADF, EIO, ENOTTY}
+use Rattle.tty_base.specs.declared.counters.Errno.TheVariants.{EIO, ENOTTY}
 use Rattle.tty_modes.specs.Settings.{has_flag}
 use Rattle.tty_modes.specs.declared.places.TheConstants.{TOSTOP}
 use Rattle.tty_calls.specs.Plain.{PlainCall, handle_of, opens, closes, reads, writes, gets_modes, sets_modes, gets_disc}
@@ -21,7 +21,6 @@ use Rattle.handle_table.specs.declared.HandleState.{HandleState}
 use Rattle.handle_table.specs.Handles.{is_live}
 use Rattle.tty_terminal.specs.Terminals.{Terminal, handle_at}
 use Rattle.job_control.specs.declared.processes.Proc.{Proc}
-use Rattle.job_control.specs.declared.jobs.Holder.{Holder}
 use Rattle.job_control.specs.declared.processes.JobAct.{JobAct}
 use Rattle.job_control.specs.declared.processes.JobAct.TheVariants.{Read, Write, Change}
 use Rattle.job_control.specs.declared.processes.JobRefusal.{JobRefusal}
@@ -32,10 +31,9 @@ use Rattle.job_control.specs.declared.processes.Judged.TheVariants.{Pass, Eio, S
 use Rattle.job_control.specs.declared.answers.JobAnswer.{JobAnswer}
 use Rattle.job_control.specs.declared.answers.JobAnswer.TheVariants as told
 use Rattle.job_control.specs.declared.answers.Target.TheVariants as towards
-use Rattle.job_control.specs.Roster.{session_at, group_at, parent_at, leads_at, has_exited, ties_to, is_tied}
-use Rattle.job_control.specs.Roster.{ties_group}
-use Rattle.job_control.specs.Roster.{is_orphaned, lives_in, has_living}
-use Rattle.job_control.specs.Control.{JobState, first_jobs, is_controlled, controls, in_background, leads_holder}
+use Rattle.job_control.specs.Roster.{session_at, group_at, parent_at, leads_at, has_exited, is_tied}
+use Rattle.job_control.specs.Roster.{is_orphaned, has_living}
+use Rattle.job_control.specs.Control.{JobState, first_jobs, controls, in_background, leads_holder}
 use Rattle.job_control.specs.Control.{ignores_ttin, ignores_ttou, is_orphan, change_judged, background_judged, judged}
 use Rattle.job_control.specs.Control.{sctty_refusal, taken_by, after_sctty, no_terminal, let_go, after_notty}
 use Rattle.job_control.specs.Control.{foreground_of, gpgrp_answer, spgrp_refusal, in_front, after_spgrp, after_exit}
@@ -44,15 +42,15 @@ use Rattle.passed_calls.specs.Scripts.{plain, further}
 use Rattle.job_text.specs.declared.calls.OwnCall.{OwnCall}
 use Rattle.job_text.specs.declared.calls.OwnCall.TheVariants as call
 use Rattle.job_text.specs.Events.{JobEvent, own, passed, passed_down, sent, JobLog}
-use Rattle.job_text.specs.Sessions.{JobCall, JobsSession, proc_place}
+use Rattle.job_text.specs.Sessions.{JobCall}
 use Rattle.job_steps.specs.Steps.{Port, Moment, JobsState, procs_of, names_of_port, first_state, jobs_among}
 use Rattle.job_steps.specs.Steps.{jobs_before}
-use Rattle.job_steps.specs.Steps.{proc_named, proc_of, next_of, next_call, Checked, unchecked, checks, checked}
+use Rattle.job_steps.specs.Steps.{proc_named, proc_of, next_call, Checked, unchecked, checks, checked}
 use Rattle.job_steps.specs.Steps.{is_usable}
-use Rattle.job_steps.specs.Steps.{judged_if, judged_call, judged_answer, sent_by_stop, Outcome, leaves, done_or}
+use Rattle.job_steps.specs.Steps.{judged_if, judged_call, judged_answer, sent_by_stop, ControlOutcome, leaves, done_or}
 use Rattle.job_steps.specs.Steps.{number_or}
-use Rattle.job_steps.specs.Steps.{foreground_target, notty_due, exit_due, spgrp_judged, spgrp_outcome, through}
-use Rattle.job_steps.specs.Steps.{outcome_of, is_own, OwnAnswer, IsOfCall, first_place, GoesOn, IsSent, IsAllowed}
+use Rattle.job_steps.specs.Steps.{foreground_target, notty_due, spgrp_judged, spgrp_outcome, through}
+use Rattle.job_steps.specs.Steps.{outcome_of, is_own, OwnAnswer, IsOfCall, first_place, WentToPort, IsSent, IsAllowed}
 use Rattle.job_steps.specs.Steps.{with_jobs, answered_for}
 use Rattle.job_control.specs.declared.processes.JobSignal.{JobSignal}
 use Rattle.job_control.specs.declared.answers.Target.{Target}
@@ -244,20 +242,20 @@ module _ (jobs : JobState) (p : ℕ) where
   is_own_same t (plain call) = ap (λ (j : Judged). not (is_none (judged_answer j))) (judged_call_same t call)
   is_own_same t (further call) = refl
 
-abbrev bare_outcome : Outcome → Outcome
+abbrev bare_outcome : ControlOutcome → ControlOutcome
 bare_outcome o = record o { left = bare_jobs o.left }
 
-if_outcome : (b : Bool) (x y : Outcome)
+if_outcome : (b : Bool) (x y : ControlOutcome)
     → (if b then bare_outcome x else bare_outcome y) ≡ bare_outcome (if b then x else y)
 if_outcome true x y = refl
 if_outcome false x y = refl
 
-through_same : (jobs : JobState) (o : Option HandleState) (dead : JobAnswer) (outcome bared : Outcome)
+through_same : (jobs : JobState) (o : Option HandleState) (dead : JobAnswer) (outcome bared : ControlOutcome)
     → bared ≡ bare_outcome outcome
     → through (bare_jobs jobs) o dead bared ≡ bare_outcome (through jobs o dead outcome)
 through_same jobs None dead outcome bared same = refl
 through_same jobs (Some handle) dead outcome bared same =
-    ap (λ (x : Outcome). if handle.live then x else leaves dead (bare_jobs jobs)) same
+    ap (λ (x : ControlOutcome). if handle.live then x else leaves dead (bare_jobs jobs)) same
     ∙ if_outcome handle.live outcome (leaves dead jobs)
 
 spgrp_judged_same : (jobs : JobState) (p group : ℕ) (j : Judged)
@@ -309,7 +307,7 @@ outcome_same jobs t p c (further (call.Spgrp h group)) =
     if controls_same jobs p i
     then spgrp_judged (bare_jobs jobs) p group (judged_same jobs p Change stop i)
     else leaves (told.Refused ENOTTY) (bare_jobs jobs))
-    ∙ (ap (λ (x : Outcome). if controls jobs p then x else leaves (told.Refused ENOTTY) (bare_jobs jobs))
+    ∙ (ap (λ (x : ControlOutcome). if controls jobs p then x else leaves (told.Refused ENOTTY) (bare_jobs jobs))
     (spgrp_judged_same jobs p group (judged jobs p Change stop))
     ∙ if_outcome (controls jobs p) (spgrp_judged jobs p group (judged jobs p Change stop))
     (leaves (told.Refused ENOTTY) jobs)) in
@@ -446,13 +444,13 @@ answers_same jobs t p q c None answer same h = h
 answers_same jobs t p q c (Some call) answer same h = (
   (ap (λ (x : ℕ). is_own (bare_jobs jobs) t x call) same ∙ is_own_same jobs p t call) ∙ h.0,
   h.1
-      ∙ sym (ap (λ (o : Outcome). o.answer)
+      ∙ sym (ap (λ (o : ControlOutcome). o.answer)
       (ap (λ (x : ℕ). outcome_of (bare_jobs jobs) t x c call) same ∙ outcome_same jobs t p c call)),
 )
 
 goes_same : (port : Port) (s : JobsState) (place c : ℕ) (o : Option JobCall)
-    → GoesOn port s place c o
-    → GoesOn (bare_port port) (bare_state s) place c o
+    → WentToPort port s place c o
+    → WentToPort (bare_port port) (bare_state s) place c o
 goes_same port s place c None h = h
 goes_same port s place c (Some (plain call)) h =
     (λ i. judged_call (before_same port s place i) (terminal_at port.journal place) (proc_same port c i) call)

@@ -8,6 +8,7 @@ use Rattle.std.proofs.lemmas.Grind.{flat_map-append}
 use Rattle.std.proofs.lemmas.List.{take_all}
 use Rattle.std.proofs.lemmas.List.Elements.{All-cons, All-nil}
 use Rattle.std.proofs.lemmas.List.FromFn.{length-range_with_len}
+use Rattle.tty_base.specs.Sizes.{MOST_PHASES}
 use Rattle.tty_base.specs.declared.characters.Flagged.{Flagged}
 use Rattle.tty_base.specs.Characters.{good_characters}
 use Rattle.tty_calls.specs.declared.journals.PortRun.{PortRun}
@@ -16,14 +17,14 @@ use Rattle.tty_terminal.specs.Terminals.{Terminal}
 use Rattle.tty_terminal.specs.Runs.{chars_of}
 use Rattle.uart_line.specs.Received.{received_list, script}
 use Rattle.uart_line.specs.Offered.{kept_list}
-use Rattle.journal_check.specs.Legal.{IsLegal, script_on}
+use Rattle.legal_runs.specs.Legal.{IsLegal, script_on}
 use Rattle.vt_consoles.specs.declared.entries.VtEntry.{VtEntry}
 use Rattle.vt_consoles.specs.declared.entries.VtEvent.{VtEvent}
 use Rattle.vt_consoles.specs.declared.entries.VtEvent.TheVariants.{Activate, State, Key}
 use Rattle.vt_consoles.specs.Runs.{NameRightly, NamesRightly, active_after}
 use Rattle.vt_text.specs.Sessions.{PlainVtPhase, PlainVtSession}
 use Rattle.vt_text.proofs.Limits.{read_within}
-use Rattle.vt_account.specs.Account.{HasParts, IsAccount, IsPartOf, index_in, indexes_by}
+use Rattle.vt_account.specs.Account.{HasParts, IsAccount, IsPhasePart, index_in, indexes_by}
 use Rattle.vt_account.specs.Seats.{keyboard_seat}
 use Rattle.vt_account.specs.Keyed.{IsWithinKeys, all_keys, console_in, consoles_in, keyed, keys_of, keys_to}
 use Rattle.vt_account.proofs.Limits.{keyed_within}
@@ -108,7 +109,7 @@ module _ (keyboard : ℕ) where
       rest_is_none (if e.seat == seat then index_in e.event else []) (indexes_by seat entries) (none seat other)))
 
 part_counted : (session : PlainVtSession) (phase : PlainVtPhase) (first : ℕ) (part : List VtEntry)
-    → IsPartOf session phase first part
+    → IsPhasePart session phase first part
     → length (consoles_in part) ≡ length phase.keys
 part_counted session phase first part h =
     let keyboard = keyboard_seat session.phases in
@@ -155,13 +156,13 @@ received_are : (session : PlainVtSession) (entries : List VtEntry) (p : ℕ)
     → p < session.calls.ports
     → received_list (script_on p (keyed session entries)) ≡ good_characters (keys_of session entries p)
 received_are session entries p keys port =
-    let few : length (keyed session entries).phases ≤ 64 = (keyed_within session entries keys).few_phases in
-    let few_too : length session.phases ≤ 64 = omega (arith, keys.whole, keys.calls.few_phases) in
+    let few : length (keyed session entries).phases ≤ MOST_PHASES = (keyed_within session entries keys).few_phases in
+    let few_too : length session.phases ≤ MOST_PHASES = omega (arith, keys.whole, keys.calls.few_phases) in
     ap (λ (phases : List PlainPhase). received_list (script (map (line_on p) phases)))
-    (sym (take_all 64 (keyed session entries).phases few))
-    ∙ keys_received session entries p 64 keys.whole port
+    (sym (take_all MOST_PHASES (keyed session entries).phases few))
+    ∙ keys_received session entries p MOST_PHASES keys.whole port
     ∙ ap (λ (phases : List PlainVtPhase). good_characters (keys_to p (all_keys phases) (consoles_in entries)))
-    (take_all 64 session.phases few_too)
+    (take_all MOST_PHASES session.phases few_too)
 
 pub keys_kept : (text : List ℕ) (session : PlainVtSession) (entries : List VtEntry) (p : ℕ) (run : PortRun)
     (t : Terminal)

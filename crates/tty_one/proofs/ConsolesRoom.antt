@@ -1,11 +1,12 @@
 -- No journal of a console is ever full, and a session of consoles that a text spells can be played.
 use Rattle.std.proofs.Common.{◌≡◌, ℕ, ◌+◌, ◌*◌, ◌<◌, ◌≤◌, List, length, ap, subst, arith}
 use Rattle.std.specs.Prelude.{sum_by}
+use Rattle.tty_base.specs.Sizes.{MOST_ARRIVALS, MOST_ENTRIES, MOST_STEPS, MOST_TEXT, MOST_TICKS}
 use Rattle.tty_calls.specs.declared.journals.PortRun.{PortRun}
 use Rattle.tty_calls.specs.Limits.{byte_count, character_count, tick_count}
 use Rattle.tty_calls.specs.Sessions.{PlainScript, scripts_over}
 use Rattle.tty_terminal.specs.Terminals.{Terminal}
-use Rattle.journal_check.specs.Short.{IsCutShort}
+use Rattle.legal_runs.specs.Short.{IsCutShort}
 use Rattle.journal_bound.specs.Counts.{byte_count_on, call_count_on}
 use Rattle.journal_bound.proofs.Bound.{bounded, few_calls}
 use Rattle.vt_consoles.specs.declared.entries.VtEntry.{VtEntry}
@@ -23,20 +24,20 @@ use Rattle.tty_one.proofs.Roomy.{scripts_handed}
 few_entries_by : (entries written calls characters ticks long : ℕ)
     → 16 * entries ≤ 31 * written + 48 * calls + 32 * characters + 16 * ticks + 19504
     → 2 * written + 3 * calls + 2 * characters ≤ long + 2
-    → long ≤ 4194304
-    → calls ≤ 65536
-    → characters ≤ 262144
-    → ticks ≤ 65536
-    → entries < 4194304
+    → long ≤ MOST_TEXT
+    → calls ≤ MOST_STEPS
+    → characters ≤ MOST_ARRIVALS
+    → ticks ≤ MOST_TICKS
+    → entries < MOST_ENTRIES
 few_entries_by entries written calls characters ticks long bound asked few k c t =
     omega (arith, bound, asked, few, k, c, t)
 
 pub console_never_full : (text : List ℕ) (session : PlainVtSession) (entries : List VtEntry) (p : ℕ) (run : PortRun)
     (t : Terminal)
     → SpellsConsoles text session
-    → length text ≤ 4194304
+    → length text ≤ MOST_TEXT
     → IsCutShort p (keyed session entries) run t
-    → length run.journal.items < 4194304
+    → length run.journal.items < MOST_ENTRIES
 console_never_full text session entries p run t spells few short =
     let keys = within_keys session (read_within text session spells) in
     let within = keyed_within session entries keys in
@@ -59,7 +60,7 @@ console_never_full text session entries p run t spells few short =
 
 pub can_be_played : (text : List ℕ) (session : PlainVtSession)
     → SpellsConsoles text session
-    → length text ≤ 4194304
+    → length text ≤ MOST_TEXT
     → CanBePlayed session
 can_be_played text session spells few =
     let within = read_within text session spells in

@@ -10,8 +10,8 @@ use Rattle.check_text.specs.Grammar.{Spells as SpellsRuns}
 use Rattle.check_text.specs.Reading.{refusal as refusal_of_runs}
 use Rattle.check_text.specs.Runs.{PlainRun, run_of}
 use Rattle.check_text.proofs.Spelled.{spelled_once, spelled_fault}
-use Rattle.journal_check.specs.Legal.{IsFinished, AreSeen, IsOnTheWay, IsLegalOn, flip_on, script_on}
-use Rattle.journal_check.specs.Verdicts.{AreLegal}
+use Rattle.legal_runs.specs.Legal.{IsFinished, AreSeen, IsOnTheWay, IsLegalOn, flip_on, script_on}
+use Rattle.legal_runs.specs.Ports.{AreLegal}
 use Rattle.journal_check.specs.declared.verdicts.Verdict.{Verdict}
 use Rattle.journal_check.specs.declared.verdicts.Verdict.TheVariants.{Legal}
 use Rattle.journal_check.proofs.VerdictLemmas.{one_verdict}

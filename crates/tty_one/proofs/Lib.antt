@@ -6,7 +6,9 @@ pub mod ConsolesPlayed
 mod ConsolesReport
 mod ConsolesRoom
 mod Judged
+mod LogsAlike
 mod ModemLinesPlayed
+mod ModemLinesReport
 mod ModemLinesRoom
 mod Numbered
 mod OneReport

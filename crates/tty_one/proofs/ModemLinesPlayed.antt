@@ -7,15 +7,15 @@ use Rattle.tty_calls.specs.declared.answers.PortEnd.{PortEnd}
 use Rattle.tty_calls.specs.declared.journals.PortRun.{PortRun}
 use Rattle.tty_calls.specs.Sessions.{PlainSession, session_of}
 use Rattle.session_print.specs.Ends.{end_of}
-use Rattle.one_thread.specs.Order.{AllSeeAll}
-use Rattle.one_thread.specs.Played.{ArePlayed}
+use Rattle.one_order.specs.Order.{AllSeeAll}
+use Rattle.play_base.specs.Played.{ArePlayed}
 use Rattle.passed_calls.specs.Within.{ArePassedWithin}
 use Rattle.modem_text.specs.declared.sessions.ModemSession.{ModemSession as KeptSession}
 use Rattle.modem_text.specs.Events.{ModemLog, logged_of}
 use Rattle.modem_text.specs.Sessions.{ModemSession, modem_session_of}
 use Rattle.modem_steps.specs.Derived.{derived}
 use Rattle.modem_steps.specs.Order.{AreInModemTurn}
-use Rattle.modem_one.specs.Played.{port_in, AreModemsPlayed, AreNotFull, IsLoggedWhole}
+use Rattle.modem_one.specs.Played.{port_in, AreModemsPlayed, IsLoggedWhole}
 use Rattle.modem_ports.specs.declared.running.ModemRan.{ModemRan}
 use Rattle.further_report.specs.Modem.{modem_report_text}
 use Rattle.tty_one.specs.declared.reading.Reading.{Reading}
@@ -29,6 +29,7 @@ use Rattle.tty_one.specs.Works.{brought, AreModemLinesRead, AreModemLinesWork, C
 use Rattle.tty_one.specs.Works.{IsNeverFull, IsReportOfModemLines}
 use Rattle.tty_one.proofs.ModemLinesRoom.{can_modem_lines_be_played}
 use Rattle.tty_one.proofs.PortLemmas.{each_whole, there_too}
+use Rattle.passed_laws.specs.Sessions.{AreNotFull}
 
 -- ---- a session
 

@@ -4,11 +4,12 @@ use Rattle.std.proofs.Common.{List, [], ◌∷◌, ◌++◌, length, refl, sym, 
 use Rattle.std.specs.Prelude.{All, flat_map}
 use Rattle.std.specs.List.{range_with_len}
 use Rattle.std.proofs.lemmas.List.Elements.{All-nil, All-cons, All-append}
+use Rattle.tty_base.specs.Sizes.{MOST_ENTRIES, MOST_TEXT}
 use Rattle.tty_calls.specs.declared.journals.PortRun.{PortRun}
 use Rattle.tty_calls.specs.Plain.{PlainEntry}
 use Rattle.tty_terminal.specs.Standing.{standing_in, at_first}
 use Rattle.tty_terminal.specs.Terminals.{Terminal}
-use Rattle.journal_check.specs.Short.{IsCutShort}
+use Rattle.legal_runs.specs.Short.{IsCutShort}
 use Rattle.passed_calls.specs.Blocks.{names_on}
 use Rattle.passed_calls.specs.Derived.{Passing, passed_phases}
 use Rattle.passed_calls.specs.Within.{ArePassedWithin}
@@ -18,7 +19,7 @@ use Rattle.modem_text.specs.Sessions.{ModemSession, blocks_in}
 use Rattle.modem_text.specs.Within.{IsModemSessionWithin}
 use Rattle.modem_text.proofs.Left.{session_within}
 use Rattle.modem_steps.specs.Derived.{block_phases, modem_call_at, passings_on, plain_call}
-use Rattle.modem_one.specs.Played.{answered_by, begun_by, begun_in, derived_with, journal_on}
+use Rattle.modem_one.specs.Played.{answered_by, begun_by, begun_in, derived_with}
 use Rattle.further_asked.specs.Asked.{AskNoMore, AsksWithin, asked_at}
 use Rattle.further_asked.specs.Modem.{asked_phases}
 use Rattle.further_asked.proofs.Modem.{asked_blocks_are, call_within, logged_within, text_asks_all}
@@ -26,6 +27,7 @@ use Rattle.further_asked.proofs.Passing.{asks_no_more}
 use Rattle.tty_one.specs.ModemLines.{SpellsModemLines, given_to}
 use Rattle.tty_one.specs.Works.{CanModemLinesBePlayed}
 use Rattle.tty_one.proofs.Roomy.{never_full_within}
+use Rattle.passed_laws.specs.Sessions.{journal_on}
 
 -- ---- what the ports have begun asks no more than the calls of their callers
 
@@ -69,10 +71,10 @@ module _ (session : ModemSession) (within : IsModemSessionWithin session) (log :
 pub modem_lines_never_full : (text : List ℕ) (session : ModemSession) (log : ModemLog) (runs : List PortRun) (p : ℕ)
     (run : PortRun) (t : Terminal)
     → SpellsModemLines text session
-    → length text ≤ 4194304
+    → length text ≤ MOST_TEXT
     → ArePassedWithin (given_to session log runs)
     → IsCutShort p (derived_with session log runs) run t
-    → length run.journal.items < 4194304
+    → length run.journal.items < MOST_ENTRIES
 modem_lines_never_full text session log runs p run t spells few within short =
     let played = derived_with session log runs in
     let of_text = session_within text session spells in
@@ -84,7 +86,7 @@ modem_lines_never_full text session log runs p run t spells few within short =
 
 pub can_modem_lines_be_played : (text : List ℕ) (session : ModemSession)
     → SpellsModemLines text session
-    → length text ≤ 4194304
+    → length text ≤ MOST_TEXT
     → CanModemLinesBePlayed session
 can_modem_lines_be_played text session spells few = record {
   within = session_within text session spells;

@@ -18,7 +18,7 @@ use Rattle.tty_one.specs.declared.works.Ending.TheVariants.{Done, BadSession, Ba
 use Rattle.tty_one.specs.declared.playing.Telling.TheVariants.{Summary}
 use Rattle.tty_one.specs.declared.words.Command.TheVariants.{Gen}
 use Rattle.tty_one.specs.Reported.{IsOrdered}
-use Rattle.tty_one.specs.Works.{IsSessionWork, CanEnd, IsNeverFull}
+use Rattle.tty_one.specs.Works.{IsSessionWork, CanEndWith, IsNeverFull}
 
 -- the bytes that scripts write
 abbrev written_in : List PlainScript → ℕ
@@ -87,7 +87,7 @@ number_room number p run t short =
 -- how the work on the session of a number can end
 ends_at : (number : ℕ) (e : Ending) (runs : List PortRun)
     → IsSessionWork IsOrdered (Summary number) (generated_session number) e runs
-    → CanEnd (Gen number) e
+    → CanEndWith (Gen number) e
 ends_at number (Done report) runs h = tt
 ends_at number (BadSession line) runs h = h
 ends_at number BadWords runs h = h
@@ -97,6 +97,6 @@ ends_at number (NotLegal line) runs h = h
 
 pub number_ends : (number : ℕ) (r : Result Work NoMemory)
     → IfOk r (λ work. IsSessionWork IsOrdered (Summary number) (generated_session number) work.ending work.runs.items)
-    → IfOk r (λ work. CanEnd (Gen number) work.ending)
+    → IfOk r (λ work. CanEndWith (Gen number) work.ending)
 number_ends number (Ok work) h = ends_at number work.ending work.runs.items h
 number_ends number (Err e) h = h

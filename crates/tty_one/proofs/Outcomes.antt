@@ -2,6 +2,7 @@
 use Rattle.std.proofs.Common.{◌≡◌, ◌⊎◌, ◌+◌, ◌≤◌, take, drop, length, codes, get_or, arith, ℕ, Bool, true, false, List}
 use Rattle.std.proofs.Common.{[], ◌∷◌, ◌++◌, Option, None, Some, Ok, IfSome, inl, inr, refl, sym, ap, subst, ◌∙◌}
 use Rattle.std.specs.Prelude.{option_map}
+use Rattle.tty_base.specs.Sizes.{MOST_TEXT}
 use Rattle.tty_base.specs.Contents.{Contents}
 use Rattle.tty_base.specs.Outside.{Rose, LeavesRest, TookCount}
 use Rattle.tty_calls.specs.declared.journals.PortRun.{PortRun}
@@ -37,7 +38,7 @@ use Rattle.tty_one.specs.ModemLines.{modem_lines_refusal, IsToldOfModemLines, Co
 use Rattle.tty_one.specs.Outcome.{IsPlayedText, IsRefused, IsToldBy, refusal_by, Completes, CompletesCheck, WasGiven}
 use Rattle.tty_one.specs.Outcome.{WasGivenFront, IsDone, IsToldRefused, IsToldIllegal, IsBroken}
 use Rattle.tty_one.specs.Outcome.{breaks_fault, breaks_long, breaks_refusal, breaks_text, breaks_verdict}
-use Rattle.tty_one.specs.Works.{brought, IsIllegalBy, IsWork, HasOwn, CanEnd, ReadsNothing}
+use Rattle.tty_one.specs.Works.{brought, IsIllegalBy, IsWork, HasOwn, CanEndWith, ReadsNothing}
 use Rattle.tty_one.proofs.Judged.{completes_check}
 
 -- what the work brought is what is returned
@@ -265,7 +266,7 @@ reads_nothing Vt words asked gen = absurd (not_vt_and_gen words (inl asked) gen)
 reads_nothing VtOne words asked gen = absurd (not_vt_and_gen words (inr asked) gen)
 
 -- a command that ends for want of what it reads does read
-read_fault_reads : (command : Command) → CanEnd command ReadFault → ReadsNothing command → ⊥
+read_fault_reads : (command : Command) → CanEndWith command ReadFault → ReadsNothing command → ⊥
 read_fault_reads (Run journals) can none = none
 read_fault_reads (RunOne journals) can none = none
 read_fault_reads Modem can none = none
@@ -275,7 +276,7 @@ read_fault_reads Check can none = none
 read_fault_reads Vt can none = none
 read_fault_reads VtOne can none = none
 
-long_reads : (command : Command) → CanEnd command TooLong → ReadsNothing command → ⊥
+long_reads : (command : Command) → CanEndWith command TooLong → ReadsNothing command → ⊥
 long_reads (Run journals) can none = none
 long_reads (RunOne journals) can none = none
 long_reads Modem can none = none
@@ -347,7 +348,7 @@ broken_verdict Known Reading words VtOne faults faults' left rest before now bac
 pub broken : (Known Reading : Type 0) (words : List (List ℕ)) (command : Command) (faults faults' : ℕ)
     (left rest before now : Option (List ℕ)) (back : Returned) (e : Ending)
     → Ask command words
-    → CanEnd command e
+    → CanEndWith command e
     → ((ReadsNothing command → ⊥) → Reading)
     → IsOfSource e faults faults' left rest
     → IsWork command left e back
@@ -580,7 +581,7 @@ not_both bytes session bad spells refused = none_some bad (sym (spelled_fault by
 too_short : (bytes : List ℕ) (rest : Option (List ℕ))
     → LeavesRest bytes rest
     → TookCount 4194305 bytes rest
-    → length bytes ≤ 4194304
+    → length bytes ≤ MOST_TEXT
     → ⊥
 too_short bytes rest h took short =
     let counted : length bytes ≡ length (drop h.0 bytes) + 4194305 =
@@ -624,7 +625,7 @@ by_ending : (Comes : Type 0) (command : Command) (bytes : List ℕ) (faults faul
     → IsOfSource e faults faults' (Some bytes) rest
     → IsWork command (Some bytes) e back
     → LeavesRest bytes rest
-    → length bytes ≤ 4194304
+    → length bytes ≤ MOST_TEXT
     → (Rose faults faults' → ⊥)
     → Comes
 by_ending Comes command bytes faults faults' rest back (Done report) status plays refuses legal is of work left short
@@ -652,7 +653,7 @@ pub completes : (Asked : Type 0) (words : List (List ℕ)) (command : Command) (
     → IsOfSource e faults faults' left rest
     → IsWork command left e back
     → IfSome left (λ bytes. LeavesRest bytes rest)
-    → IfSome left (λ bytes. Asked → length bytes ≤ 4194304 → (Rose faults faults' → ⊥) → Completes bytes status)
+    → IfSome left (λ bytes. Asked → length bytes ≤ MOST_TEXT → (Rose faults faults' → ⊥) → Completes bytes status)
 completes Asked words command None rest faults faults' back e status plays asked is of done left = left
 completes Asked words command (Some bytes) rest faults faults' back e status plays asked (inr four) of done left =
     λ asks short sound. not_told bytes status four
@@ -685,7 +686,7 @@ pub judged : (words : List (List ℕ)) (command : Command) (left rest : Option (
     → IsWork command left e back
     → IfSome left (λ bytes. LeavesRest bytes rest)
     → IfSome left
-    (λ bytes. AskCheck words → length bytes ≤ 4194304 → (Rose faults faults' → ⊥) → CompletesCheck bytes status)
+    (λ bytes. AskCheck words → length bytes ≤ MOST_TEXT → (Rose faults faults' → ⊥) → CompletesCheck bytes status)
 judged words command None rest faults faults' back e status asked is of done left = left
 judged words (Run journals) (Some bytes) rest faults faults' back e status asked is of done left = λ check.
     absurd (not_check_and_run words journals check asked)
@@ -749,7 +750,8 @@ pub completes_consoles : (Asked : Type 0) (words : List (List ℕ)) (command : C
     → IsOfSource e faults faults' left rest
     → IsWork command left e back
     → IfSome left (λ bytes. LeavesRest bytes rest)
-    → IfSome left (λ bytes. Asked → length bytes ≤ 4194304 → (Rose faults faults' → ⊥) → CompletesConsoles bytes status)
+    → IfSome left
+    (λ bytes. Asked → length bytes ≤ MOST_TEXT → (Rose faults faults' → ⊥) → CompletesConsoles bytes status)
 completes_consoles Asked words command None rest faults faults' back e status vt asked is of done left = left
 completes_consoles Asked words command (Some bytes) rest faults faults' back e status vt asked (inr four) of done left =
     λ asks short sound. record {
@@ -780,7 +782,8 @@ completes_consoles Asked words VtOne (Some bytes) rest faults faults' back e sta
 -- words that ask for no consoles
 pub not_consoles : (Asked : Type 0) (left : Option (List ℕ)) (status : ℕ) (faults faults' : ℕ)
     → (Asked → ⊥)
-    → IfSome left (λ bytes. Asked → length bytes ≤ 4194304 → (Rose faults faults' → ⊥) → CompletesConsoles bytes status)
+    → IfSome left
+    (λ bytes. Asked → length bytes ≤ MOST_TEXT → (Rose faults faults' → ⊥) → CompletesConsoles bytes status)
 not_consoles Asked None status faults faults' other = tt
 not_consoles Asked (Some bytes) status faults faults' other = λ asks. absurd (other asks)
 
@@ -827,7 +830,7 @@ pub completes_processes : (words : List (List ℕ)) (command : Command) (left re
     → IsWork command left e back
     → IfSome left (λ bytes. LeavesRest bytes rest)
     → IfSome left
-    (λ bytes. AskJobs words → length bytes ≤ 4194304 → (Rose faults faults' → ⊥) → CompletesProcesses bytes status)
+    (λ bytes. AskJobs words → length bytes ≤ MOST_TEXT → (Rose faults faults' → ⊥) → CompletesProcesses bytes status)
 completes_processes words command None rest faults faults' back e status asked is of done left = left
 completes_processes words command (Some bytes) rest faults faults' back e status asked (inr four) of done left =
     λ jobs short sound. record {
@@ -893,7 +896,7 @@ modem_lines_complete : (words : List (List ℕ)) (command : Command) (bytes : Li
     → IsWork command (Some bytes) e back
     → LeavesRest bytes rest
     → AskModem words
-    → length bytes ≤ 4194304
+    → length bytes ≤ MOST_TEXT
     → (Rose faults faults' → ⊥)
     → CompletesModemLines bytes status
 modem_lines_complete words (Run journals) bytes rest faults faults' back e status asked is of done left modem =
@@ -923,7 +926,7 @@ pub completes_modem_lines : (words : List (List ℕ)) (command : Command) (left 
     → IsWork command left e back
     → IfSome left (λ bytes. LeavesRest bytes rest)
     → IfSome left
-    (λ bytes. AskModem words → length bytes ≤ 4194304 → (Rose faults faults' → ⊥) → CompletesModemLines bytes status)
+    (λ bytes. AskModem words → length bytes ≤ MOST_TEXT → (Rose faults faults' → ⊥) → CompletesModemLines bytes status)
 completes_modem_lines words command None rest faults faults' back e status asked is of done left = left
 completes_modem_lines words command (Some bytes) rest faults faults' back e status asked (inr four) of done left =
     λ modem short sound. record {
@@ -938,7 +941,7 @@ completes_modem_lines words command (Some bytes) rest faults faults' back e stat
 pub not_modem_lines : (words : List (List ℕ)) (left : Option (List ℕ)) (status : ℕ) (faults faults' : ℕ)
     → (AskModem words → ⊥)
     → IfSome left
-    (λ bytes. AskModem words → length bytes ≤ 4194304 → (Rose faults faults' → ⊥) → CompletesModemLines bytes status)
+    (λ bytes. AskModem words → length bytes ≤ MOST_TEXT → (Rose faults faults' → ⊥) → CompletesModemLines bytes status)
 not_modem_lines words None status faults faults' other = tt
 not_modem_lines words (Some bytes) status faults faults' other = λ modem. absurd (other modem)
 
@@ -946,7 +949,7 @@ not_modem_lines words (Some bytes) status faults faults' other = λ modem. absur
 pub not_processes : (words : List (List ℕ)) (left : Option (List ℕ)) (status : ℕ) (faults faults' : ℕ)
     → (AskJobs words → ⊥)
     → IfSome left
-    (λ bytes. AskJobs words → length bytes ≤ 4194304 → (Rose faults faults' → ⊥) → CompletesProcesses bytes status)
+    (λ bytes. AskJobs words → length bytes ≤ MOST_TEXT → (Rose faults faults' → ⊥) → CompletesProcesses bytes status)
 not_processes words None status faults faults' other = tt
 not_processes words (Some bytes) status faults faults' other = λ jobs. absurd (other jobs)
 
@@ -954,7 +957,7 @@ not_processes words (Some bytes) status faults faults' other = λ jobs. absurd (
 
 made_so : (number : ℕ) (e : Ending) (status : ℕ)
     → (status ≡ status_of e) ⊎ (status ≡ 4)
-    → CanEnd (Gen number) e
+    → CanEndWith (Gen number) e
     → IsStatusOr 0 status
 made_so number e status (inr four) can = inr (inl four)
 made_so number (Done report) status (inl is) can = inl is
@@ -967,7 +970,7 @@ made_so number (NotLegal line) status (inl is) can = absurd can
 pub made : (words : List (List ℕ)) (command : Command) (e : Ending) (status : ℕ)
     → Ask command words
     → (status ≡ status_of e) ⊎ (status ≡ 4)
-    → CanEnd command e
+    → CanEndWith command e
     → AreGen words
     → IsStatusOr 0 status
 made words (Run journals) e status asked is can = λ gen. absurd (not_gen_and_run words journals gen asked)
@@ -1092,7 +1095,7 @@ nothing_by command left back e status done is not_done not_four =
 pub unasked : (words : List (List ℕ)) (left : Option (List ℕ)) (status : ℕ) (faults faults' : ℕ)
     → (AreOfOne words → ⊥)
     → IfSome left
-    (λ bytes. AreRunOne words → length bytes ≤ 4194304 → (Rose faults faults' → ⊥) → Completes bytes status)
+    (λ bytes. AreRunOne words → length bytes ≤ MOST_TEXT → (Rose faults faults' → ⊥) → Completes bytes status)
 unasked words None status faults faults' other = tt
 unasked words (Some bytes) status faults faults' other = λ run. absurd (other (RunOne run.0, tt, run.1))
 
@@ -1102,7 +1105,7 @@ unmade words status other gen = absurd (other (Gen gen.0, tt, gen.1))
 pub unjudged : (words : List (List ℕ)) (left : Option (List ℕ)) (status : ℕ) (faults faults' : ℕ)
     → (AreOfOne words → ⊥)
     → IfSome left
-    (λ bytes. AskCheck words → length bytes ≤ 4194304 → (Rose faults faults' → ⊥) → CompletesCheck bytes status)
+    (λ bytes. AskCheck words → length bytes ≤ MOST_TEXT → (Rose faults faults' → ⊥) → CompletesCheck bytes status)
 unjudged words None status faults faults' other = tt
 unjudged words (Some bytes) status faults faults' other = λ check. absurd (other (Check, tt, check))
 

@@ -4,14 +4,15 @@ use Rattle.std.proofs.Common.{List, [], ◌∷◌, Some, refl, sym, subst, ◌�
 use Rattle.std.specs.Prelude.{slice_get}
 use Rattle.std.specs.Prelude.{IfOk, Result, Ok, Err}
 use Rattle.std.proofs.lemmas.List.{length-map}
+use Rattle.tty_base.specs.Sizes.{MOST_ENTRIES}
 use Rattle.tty_base.specs.Contents.{Contents}
 use Rattle.tty_base.specs.declared.buffers.NoMemory.{NoMemory}
 use Rattle.tty_calls.specs.declared.answers.PortEnd.{PortEnd}
 use Rattle.tty_calls.specs.declared.journals.PortRun.{PortRun}
 use Rattle.tty_calls.specs.Sessions.{PlainSession}
 use Rattle.session_print.specs.Ends.{PlainEnd, end_of}
-use Rattle.one_thread.specs.declared.playing.Played.{Played}
-use Rattle.one_thread.specs.Played.{ArePlayed, IsPlayedOn}
+use Rattle.play_base.specs.declared.ports.Played.{Played}
+use Rattle.play_base.specs.Played.{ArePlayed, IsPlayedOn}
 use Rattle.tty_one.specs.declared.playing.Telling.{Telling}
 use Rattle.tty_one.specs.declared.works.Work.{Work}
 use Rattle.tty_one.specs.declared.works.Ending.{Ending}
@@ -60,12 +61,13 @@ there_too (x ∷ xs) (y ∷ ys) (suc p) item same is = there_too xs ys p item (o
 -- runs that are in this order where their journals are not full
 abbrev pub AreOrdered : (ℕ → PlainSession → PortRun → Type 0) → PlainSession → List PortRun → Type 0
 AreOrdered InOrder session runs =
-    (p : ℕ) (run : PortRun) → slice_get runs p ≡ Some run → length run.journal.items ≢ 4194304 → InOrder p session run
+    (p : ℕ) (run : PortRun) → slice_get runs p ≡ Some run → length run.journal.items ≢ MOST_ENTRIES
+    → InOrder p session run
 
 module _ (InOrder : ℕ → PlainSession → PortRun → Type 0) where
   whole_from : (p : ℕ) (s : PlainSession) (run : PortRun) (end : PortEnd)
       → IsPlayedOn p s run end
-      → length run.journal.items < 4194304
+      → length run.journal.items < MOST_ENTRIES
       → InOrder p s run
       → IsWhole InOrder p s run (end_of end)
   whole_from p s run end h room ordered = record {
@@ -88,7 +90,7 @@ module _ (InOrder : ℕ → PlainSession → PortRun → Type 0) where
       let found = end_found ends p plain at in
       let part = played.each p run found.end is found.at in
       let few = room p run part.terminal part.short in
-      let free : length run.journal.items ≢ 4194304 = λ full. omega (arith, full, few) in
+      let free : length run.journal.items ≢ MOST_ENTRIES = λ full. omega (arith, full, few) in
       subst (λ (e : PlainEnd). IsWhole InOrder p session run e) (sym found.is)
       (whole_from p session run found.end part few (ordered p run is free))
 

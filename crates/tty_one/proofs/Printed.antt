@@ -8,7 +8,7 @@ use Rattle.session_print.specs.Report.{calls_from, ports_from}
 use Rattle.check_text.specs.Grammar.{most, Spells as SpellsRuns}
 use Rattle.check_text.specs.Printed.{text_after}
 use Rattle.check_text.specs.Runs.{run_of}
-use Rattle.journal_check.specs.Verdicts.{OfRun, AreLegal}
+use Rattle.legal_runs.specs.Ports.{OfRun, AreLegal}
 use Rattle.journal_check.specs.declared.verdicts.Verdict.TheVariants.{Legal}
 use Rattle.journal_check.proofs.VerdictLemmas.{one_verdict}
 use Rattle.read_back.proofs.Runs.{are_read_back}

@@ -7,7 +7,7 @@ use Rattle.tty_calls.specs.declared.answers.PortEnd.{PortEnd}
 use Rattle.tty_calls.specs.declared.journals.PortRun.{PortRun}
 use Rattle.tty_calls.specs.Sessions.{PlainSession, session_of}
 use Rattle.session_print.specs.Ends.{PlainEnd, end_of}
-use Rattle.one_thread.specs.Played.{ArePlayed}
+use Rattle.play_base.specs.Played.{ArePlayed}
 use Rattle.passed_calls.specs.Within.{ArePassedWithin}
 use Rattle.passed_calls.specs.Logs.{logged_on}
 use Rattle.job_text.specs.declared.sessions.JobsSession.{JobsSession as KeptSession}
@@ -17,7 +17,7 @@ use Rattle.job_text.specs.Sessions.{JobsSession, bare_session_of, jobs_session_o
 use Rattle.job_steps.specs.Derived.{derived}
 use Rattle.job_steps.specs.Order.{AreEventsInTurn}
 use Rattle.job_steps.specs.Steps.{first_state}
-use Rattle.job_one.specs.Played.{port_in, AreJobsPlayed, AreNotFull, IsLoggedWhole}
+use Rattle.job_one.specs.Played.{port_in, AreJobsPlayed, IsLoggedWhole}
 use Rattle.job_ports.specs.declared.running.JobsRan.{JobsRan}
 use Rattle.further_report.specs.Jobs.{jobs_report_text}
 use Rattle.tty_one.specs.declared.words.Command.TheVariants.{Jobs}
@@ -34,6 +34,7 @@ use Rattle.tty_one.proofs.Bared.{kept_bare}
 use Rattle.tty_one.proofs.PortLemmas.{each_whole, there_too}
 use Rattle.tty_one.proofs.ProcessesRoom.{spelled_kept}
 use Rattle.tty_one.proofs.Refused.{line_from}
+use Rattle.passed_laws.specs.Sessions.{AreNotFull}
 
 -- ---- a session
 

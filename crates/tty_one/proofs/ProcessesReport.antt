@@ -1,17 +1,15 @@
 -- Two reports of a session of processes on one thread are the same.
-use Rattle.std.proofs.Common.{◌≡◌, ◌≤◌, ◌<◌, inl, inr, ℕ, zero, suc, ◌+◌, ◌==◌, Bool, true, false, List, [], ◌∷◌}
+use Rattle.std.proofs.Common.{◌≡◌, ◌<◌, inl, inr, ℕ, ◌+◌, List, [], ◌∷◌}
 use Rattle.std.proofs.Common.{◌++◌, Some}
-use Rattle.std.proofs.Common.{Option, Result, Ok, map, codes, length, filter, if◌then◌else◌, refl, sym, ◌∙◌, ap}
+use Rattle.std.proofs.Common.{Option, Result, Ok, map, codes, refl, sym, ◌∙◌, ap}
 use Rattle.std.proofs.Common.{subst, arith}
-use Rattle.std.specs.Prelude.{flat_map, slice_get, slice_index_or}
-use Rattle.std.specs.List.{range_with_len}
+use Rattle.std.specs.Prelude.{slice_index_or}
 use Rattle.tty_calls.specs.declared.journals.PortRun.{PortRun}
 use Rattle.session_print.specs.Ends.{PlainEnd}
 use Rattle.session_print.specs.Lines.{newline}
-use Rattle.passed_calls.specs.declared.logs.Logged.{Logged}
 use Rattle.passed_calls.specs.Blocks.{names_on}
 use Rattle.passed_calls.specs.Logs.{logged_on}
-use Rattle.job_text.specs.Events.{JobEvent, JobLog}
+use Rattle.job_text.specs.Events.{JobLog}
 use Rattle.job_text.specs.Sessions.{JobsSession, blocks_in}
 use Rattle.session_text.specs.declared.faults.BadLine.{BadLine}
 use Rattle.job_control.specs.declared.processes.Proc.{Proc}
@@ -20,12 +18,12 @@ use Rattle.job_steps.specs.Derived.{derived}
 use Rattle.job_steps.specs.Steps.{Port, JobsState, first_state, Leads}
 use Rattle.job_steps.specs.Order.{AreEventsInTurn}
 use Rattle.job_one.specs.Played.{port_in}
-use Rattle.further_report.specs.Calls.{Told, calls_text}
+use Rattle.further_report.specs.Calls.{ToldAnswer, calls_text}
 use Rattle.further_report.specs.Ports.{without_phases}
-use Rattle.further_report.specs.Jobs.{own_verb, told_in, told_on, scripts_in, port_calls, all_calls, signal_in}
-use Rattle.further_report.specs.Jobs.{port_signals, all_signals, jobs_report_text}
-use Rattle.order_laws.specs.Lost.{IsSameRun}
-use Rattle.job_laws.specs.OneRun.{IsPlayedWhole, IsSamePort}
+use Rattle.further_report.specs.Jobs.{own_verb, told_in, scripts_in, port_calls, signal_in}
+use Rattle.further_report.specs.Jobs.{port_signals, jobs_report_text}
+use Rattle.passed_laws.specs.Same.{IsSamePort}
+use Rattle.job_laws.specs.OneRun.{IsPlayedWhole}
 use Rattle.job_laws.proofs.OnePort.{one_port}
 use Rattle.tty_one.specs.declared.words.Command.{Command}
 use Rattle.tty_one.specs.declared.words.Command.TheVariants.{Run, RunOne, Modem, Jobs, Gen, Check, Vt, VtOne}
@@ -36,38 +34,10 @@ use Rattle.tty_one.specs.Processes.{bare_proc, bare_of, log_of, IsLoggedOn, AreP
 use Rattle.tty_one.proofs.BareJobs.{bare_port, bare_state, first_state_same, leads_bare, turns_bare}
 use Rattle.tty_one.proofs.Outcomes.{not_jobs_and_one, not_jobs_and_gen, not_jobs_and_vt, not_jobs_and_run}
 use Rattle.tty_one.proofs.Outcomes.{not_jobs_and_check, not_modem_and_jobs}
+use Rattle.tty_one.proofs.LogsAlike.{told_same, each_same, some_at}
 use Rattle.tty_one.proofs.OneReport.{AreSame, all_ports, OneEach, all_one, both_gave}
 
 -- ---- what a report says of a port
-
--- what is told of the events of a port is told of its log
-by_port : {X : Type 0} (f : JobEvent → List X) (p : ℕ) (log : JobLog)
-    → flat_map (λ l. if l.port == p then f l.event else []) log ≡ flat_map (λ l. f l.event) (logged_on p log)
-by_port f p [] = refl
-by_port f p (l ∷ log) = by_test (l.port == p) (by_port f p log)
-  where
-    by_test : (b : Bool)
-        → flat_map (λ l. if l.port == p then f l.event else []) log ≡ flat_map (λ l. f l.event) (logged_on p log)
-        → (if b then f l.event else []) ++ flat_map (λ l. if l.port == p then f l.event else []) log
-        ≡ flat_map (λ l. f l.event) (if b then l ∷ logged_on p log else logged_on p log)
-    by_test true rest = ap (λ xs. f l.event ++ xs) rest
-    by_test false rest = rest
-
-told_same : {X : Type 0} (f : JobEvent → List X) (p : ℕ) (log other : JobLog)
-    → logged_on p log ≡ logged_on p other
-    → flat_map (λ l. if l.port == p then f l.event else []) log
-    ≡ flat_map (λ l. if l.port == p then f l.event else []) other
-told_same f p log other same =
-    by_port f p log ∙ (ap (λ (ls : JobLog). flat_map (λ l. f l.event) ls) same ∙ sym (by_port f p other))
-
-each_same : (f g : ℕ → List ℕ) (first n : ℕ)
-    → ((p : ℕ) → first ≤ p → p < first + n → f p ≡ g p)
-    → flat_map f (range_with_len first n) ≡ flat_map g (range_with_len first n)
-each_same f g first zero same = refl
-each_same f g first (suc n) same =
-    let here = same first (omega arith) (omega arith) in
-    let rest = each_same f g (first + 1) n (λ p low high. same p (omega (arith, low)) (omega (arith, high))) in
-    λ i. here i ++ rest i
 
 -- logs that are the same on each port, and runs that are the same, are told alike
 pub same_told : (session : JobsSession) (log other : JobLog) (runs others : List PortRun) (ends : List PlainEnd)
@@ -76,7 +46,7 @@ pub same_told : (session : JobsSession) (log other : JobLog) (runs others : List
     → jobs_report_text session log runs ends ≡ jobs_report_text session other others ends
 same_told session log other runs others ends same h =
     let calls = each_same (port_calls session log) (port_calls session other) 0 session.ports (λ p low high.
-    ap (λ (ts : List Told). calls_text own_verb p (names_on p (blocks_in session)) ts (scripts_in session))
+    ap (λ (ts : List ToldAnswer). calls_text own_verb p (names_on p (blocks_in session)) ts (scripts_in session))
     (told_same told_in p log other (same p (omega (arith, high))))) in
     let signals = each_same (port_signals session log) (port_signals session other) 0 session.ports (λ p low high.
     told_same (signal_in p (slice_index_or session.procs p [])) p log other (same p (omega (arith, high)))) in
@@ -107,11 +77,6 @@ same_port : (session : JobsSession) (log other : JobLog) (p : ℕ) (run again : 
 same_port session log other p run again end last h k =
     one_port p session log other run again h.whole.terminal k.whole.terminal (played_whole session log p run end h)
     (played_whole session other p again last k)
-
-some_at : {X : Type 0} (xs : List X) (p : ℕ) → p < length xs → (x : X) × (slice_get xs p ≡ Some x)
-some_at [] p lt = absurd (omega (arith, lt))
-some_at (x ∷ xs) zero lt = (x, refl)
-some_at (x ∷ xs) (suc p) lt = some_at xs p (omega (arith, lt))
 
 one_session_report : (session : JobsSession) (back other : Returned) (text told : List ℕ)
     → AreProcessesPlayed session back text

@@ -4,11 +4,12 @@ use Rattle.std.proofs.Common.{List, [], ◌∷◌, ◌++◌, Ok, length, refl, s
 use Rattle.std.specs.Prelude.{All, flat_map}
 use Rattle.std.specs.List.{range_with_len}
 use Rattle.std.proofs.lemmas.List.Elements.{All-nil, All-cons, All-append}
+use Rattle.tty_base.specs.Sizes.{MOST_ENTRIES, MOST_TEXT}
 use Rattle.tty_calls.specs.declared.journals.PortRun.{PortRun}
 use Rattle.tty_calls.specs.Plain.{PlainEntry}
 use Rattle.tty_terminal.specs.Standing.{standing_in, at_first}
 use Rattle.tty_terminal.specs.Terminals.{Terminal}
-use Rattle.journal_check.specs.Short.{IsCutShort}
+use Rattle.legal_runs.specs.Short.{IsCutShort}
 use Rattle.passed_calls.specs.Blocks.{names_on}
 use Rattle.passed_calls.specs.Derived.{Passing, passed_phases}
 use Rattle.passed_calls.specs.Within.{ArePassedWithin}
@@ -19,7 +20,7 @@ use Rattle.job_text.specs.Reading.{jobs_in}
 use Rattle.job_text.specs.Sessions.{JobsSession, bare_session_of, blocks_in, jobs_session_of}
 use Rattle.job_text.proofs.Left.{session_within}
 use Rattle.job_steps.specs.Derived.{block_phases, job_call_at, passings_on, plain_call}
-use Rattle.job_one.specs.Played.{answered_by, begun_by, begun_in, derived_with, journal_on}
+use Rattle.job_one.specs.Played.{answered_by, begun_by, begun_in, derived_with}
 use Rattle.further_asked.specs.Asked.{AskNoMore, AsksWithin, asked_at}
 use Rattle.further_asked.specs.Jobs.{asked_phases}
 use Rattle.further_asked.proofs.Jobs.{asked_blocks_are, call_within, logged_within, text_asks_all}
@@ -28,6 +29,7 @@ use Rattle.tty_one.specs.Processes.{bare_of, given_to}
 use Rattle.tty_one.specs.Works.{CanProcessesBePlayed}
 use Rattle.tty_one.proofs.Bared.{kept_bare, within_kept}
 use Rattle.tty_one.proofs.Roomy.{never_full_within}
+use Rattle.passed_laws.specs.Sessions.{journal_on}
 
 -- ---- what the ports have begun asks no more than the calls of their callers
 
@@ -70,10 +72,10 @@ module _ (session : JobsSession) (log : JobLog) (p : ℕ) (journal : List PlainE
 pub processes_never_full : (text : List ℕ) (session : JobsSession) (log : JobLog) (runs : List PortRun) (p : ℕ)
     (run : PortRun) (t : Terminal)
     → jobs_in text ≡ Ok (bare_of session)
-    → length text ≤ 4194304
+    → length text ≤ MOST_TEXT
     → ArePassedWithin (given_to session log runs)
     → IsCutShort p (derived_with session log runs) run t
-    → length run.journal.items < 4194304
+    → length run.journal.items < MOST_ENTRIES
 processes_never_full text session log runs p run t spells few within short =
     let played = derived_with session log runs in
     let of_text = session_within text (bare_of session) spells in
@@ -93,7 +95,7 @@ spelled_kept text s spells = subst (λ (session : JobsSession). jobs_in text ≡
 
 pub can_processes_be_played : (text : List ℕ) (s : KeptSession)
     → jobs_in text ≡ Ok (bare_session_of s)
-    → length text ≤ 4194304
+    → length text ≤ MOST_TEXT
     → CanProcessesBePlayed (jobs_session_of s)
 can_processes_be_played text s spells few =
     let spelled = spelled_kept text s spells in

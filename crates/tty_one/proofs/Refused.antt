@@ -1,6 +1,7 @@
 -- What was read, and how work ends for want of it.
 use Rattle.std.proofs.Common.{◌≡◌, ◌≤◌, ℕ, List, [], Option, None, Some, Result, Ok, Err, length, refl, sym, subst}
 use Rattle.std.specs.Prelude.{IfOk, OnErr}
+use Rattle.tty_base.specs.Sizes.{MOST_TEXT}
 use Rattle.tty_base.specs.Contents.{Contents}
 use Rattle.tty_base.specs.declared.buffers.NoMemory.{NoMemory}
 use Rattle.tty_calls.specs.declared.sessions.Session.{Session}
@@ -18,8 +19,8 @@ use Rattle.tty_one.specs.Endings.{IsOfSource, IsShort}
 use Rattle.tty_one.specs.Reported.{nothing, IsAllOf}
 use Rattle.tty_one.specs.Outcome.{refusal_by}
 use Rattle.tty_one.proofs.Roomy.{never_full_here}
-use Rattle.tty_one.specs.Works.{brought, IsLineOf, IsUnread, IsTextRead, IsRead, IsSessionRead}
-use Rattle.tty_one.specs.Works.{IsIn, IsRefusal, IsWork, IsNeverFull, IsShortText}
+use Rattle.tty_one.specs.Works.{brought, IsRefusalLine, IsUnread, IsTextRead, IsRead, IsSessionRead}
+use Rattle.tty_one.specs.Works.{IsReadIn, IsRefusal, IsWork, IsNeverFull, IsShortText}
 
 -- the text that was read
 module _ (first_wrong : List ℕ → Option BadLine) (faults now : ℕ) (left rest : Option (List ℕ))
@@ -44,9 +45,9 @@ pub short_read : (reading : Reading (Contents ℕ)) (text : Contents ℕ) (bytes
     → reading ≡ Of text
     → bytes ≡ text.items
     → IsShortText reading
-    → length bytes ≤ 4194304
+    → length bytes ≤ MOST_TEXT
 short_read reading text bytes is same h =
-    subst (λ (xs : List ℕ). length xs ≤ 4194304) (sym same) (subst IsShortText is h)
+    subst (λ (xs : List ℕ). length xs ≤ MOST_TEXT) (sym same) (subst IsShortText is h)
 
 -- what holds whatever comes holds at an error
 pub at_err : {A : Type 0} (P : Type 0) (r : Result A NoMemory) → P → OnErr r P
@@ -56,8 +57,8 @@ at_err P (Err e) h = h
 -- what is wrong with the text is wrong with all that the source had left
 pub line_from : (first_wrong : List ℕ → Option BadLine) (left : Option (List ℕ)) (text line : List ℕ)
     → IsAllOf left text
-    → IsLineOf first_wrong (Some text) line
-    → IsLineOf first_wrong left line
+    → IsRefusalLine first_wrong (Some text) line
+    → IsRefusalLine first_wrong left line
 line_from first_wrong left text line whole h =
     record {
       bad = h.bad;
@@ -89,8 +90,8 @@ pub session_read : {S : Type 0} → (SpellsIt : List ℕ → S → Type 0) (firs
     (faults now : ℕ) (left rest : Option (List ℕ)) (text : List ℕ) (r : Result (Reading S) NoMemory)
     → IsAllOf left text
     → IsShort left rest
-    → length text ≤ 4194304
-    → IfOk r (IsIn SpellsIt first_wrong text)
+    → length text ≤ MOST_TEXT
+    → IfOk r (IsReadIn SpellsIt first_wrong text)
     → IfOk r (λ reading. IsRead SpellsIt first_wrong reading faults now left rest)
 session_read SpellsIt first_wrong faults now left rest text (Ok (Of session)) whole short few h =
     (record { read = text; whole = whole; spelled = h; few = few }, short)

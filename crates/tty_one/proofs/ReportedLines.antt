@@ -7,8 +7,8 @@ use Rattle.tty_calls.specs.Plain.{PlainAnswer}
 use Rattle.tty_calls.specs.Sessions.{PlainSession}
 use Rattle.tty_terminal.specs.Terminals.{Terminal}
 use Rattle.session_print.specs.Laws.{IsLineOf, TellsEachCall}
-use Rattle.session_print.specs.Report.{Told, told_on, calls_text, calls_from}
-use Rattle.journal_check.specs.Legal.{IsLegal}
+use Rattle.session_print.specs.Report.{ToldCall, told_on, calls_text, calls_from}
+use Rattle.legal_runs.specs.Legal.{IsLegal}
 use Rattle.tty_one.specs.declared.playing.Telling.TheVariants.{Report}
 use Rattle.tty_one.specs.Reported.{IsReported}
 use Rattle.tty_one.specs.Outcome.{IsOnlyLineOf, AreLinesOf, TellsEachOnce, after_calls}
@@ -21,7 +21,7 @@ same_in_some a b h = cc
 -- ---- one port
 
 module _ (p : ℕ) (session : PlainSession) (run : PortRun) (t : Terminal) (legal : IsLegal p session run t) where
-  only_line : (told : Told) (line : List ℕ)
+  only_line : (told : ToldCall) (line : List ℕ)
       → IsLineOf p session run.journal.items told line
       → IsOnlyLineOf p session run.journal.items told line
   only_line told line h =
@@ -29,7 +29,7 @@ module _ (p : ℕ) (session : PlainSession) (run : PortRun) (t : Terminal) (lega
       let same : one.answer ≡ h.answer = same_in_some one.answer h.answer (sym one.printed ∙ h.answered) in
       record { tells = h; once = one.once ∙ ap (λ (a : PlainAnswer). a ∷ []) same }
 
-  only_lines : (told : List Told) (lines : List (List ℕ))
+  only_lines : (told : List ToldCall) (lines : List (List ℕ))
       → AllZip (IsLineOf p session run.journal.items) told lines
       → AllZip (IsOnlyLineOf p session run.journal.items) told lines
   only_lines [] [] h = h

@@ -2,6 +2,7 @@
 use Rattle.std.proofs.Common.{ℕ, ◌+◌, ◌*◌, ◌<◌, ◌≤◌, List, [], ◌∷◌, length, arith}
 use Rattle.std.specs.Prelude.{sum_by}
 use Rattle.std.proofs.lemmas.List.Sums.{sum_by-cons}
+use Rattle.tty_base.specs.Sizes.{MOST_ARRIVALS, MOST_ENTRIES, MOST_STEPS, MOST_TEXT, MOST_TICKS}
 use Rattle.tty_calls.specs.declared.journals.PortRun.{PortRun}
 use Rattle.tty_calls.specs.Plain.{PlainCall, opens, closes, reads, writes, gets_modes, sets_modes, gets_disc}
 use Rattle.tty_calls.specs.Plain.{sets_disc, flushes, steers, counts_input, counts_output, excludes, admits}
@@ -13,7 +14,7 @@ use Rattle.session_text.specs.Grammar.{Spells}
 use Rattle.session_text.proofs.TextAsks.{text_asks}
 use Rattle.session_text.proofs.Within.{spelled_within}
 use Rattle.tty_terminal.specs.Terminals.{Terminal}
-use Rattle.journal_check.specs.Short.{IsCutShort}
+use Rattle.legal_runs.specs.Short.{IsCutShort}
 use Rattle.journal_bound.specs.Counts.{byte_count_on, call_count_on, written_count}
 use Rattle.journal_bound.proofs.Bound.{bounded, few_calls, never_full}
 
@@ -57,20 +58,20 @@ scripts_handed (script ∷ scripts) =
 few_entries_by : (entries written calls characters ticks long : ℕ)
     → 16 * entries ≤ 31 * written + 48 * calls + 32 * characters + 16 * ticks + 19504
     → 2 * written + 3 * calls + 2 * characters ≤ long + 1
-    → long ≤ 4194304
-    → calls ≤ 65536
-    → characters ≤ 262144
-    → ticks ≤ 65536
-    → entries < 4194304
+    → long ≤ MOST_TEXT
+    → calls ≤ MOST_STEPS
+    → characters ≤ MOST_ARRIVALS
+    → ticks ≤ MOST_TICKS
+    → entries < MOST_ENTRIES
 few_entries_by entries written calls characters ticks long bound asked few k c t =
     omega (arith, bound, asked, few, k, c, t)
 
 pub never_full_within : (text : List ℕ) (p : ℕ) (played : PlainSession) (run : PortRun) (t : Terminal)
     → IsWithinLimits played
     → asked_of p played.phases ≤ length text + 1
-    → length text ≤ 4194304
+    → length text ≤ MOST_TEXT
     → IsCutShort p played run t
-    → length run.journal.items < 4194304
+    → length run.journal.items < MOST_ENTRIES
 never_full_within text p played run t limits asks few short =
     let written = scripts_handed (scripts_over p played.phases) in
     few_entries_by (length run.journal.items) (byte_count_on p played.phases) (call_count_on p played.phases)
@@ -80,9 +81,9 @@ never_full_within text p played run t limits asks few short =
 
 pub never_full_here : (text : List ℕ) (session : PlainSession) (p : ℕ) (run : PortRun) (t : Terminal)
     → Spells text session
-    → length text ≤ 4194304
+    → length text ≤ MOST_TEXT
     → IsCutShort p session run t
-    → length run.journal.items < 4194304
+    → length run.journal.items < MOST_ENTRIES
 never_full_here text session p run t spells few short =
     let asked = text_asks text session p spells in
     let written = scripts_handed (scripts_over p session.phases) in

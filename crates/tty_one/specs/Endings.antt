@@ -161,14 +161,15 @@ abbrev pub IsStatusOr : ℕ → ℕ → Type 0
 IsStatusOr wanted status = (status ≡ wanted) ⊎ ((status ≡ 4) ⊎ (status ≡ 5))
 
 -- given is before, and then some bytes
-abbrev pub Adds : List ℕ → Option (List ℕ) → Type 0
-Adds before given = (more : List ℕ) × (given ≡ Some (before ++ more))
+abbrev pub AddsBytes : List ℕ → Option (List ℕ) → Type 0
+AddsBytes before given = (more : List ℕ) × (given ≡ Some (before ++ more))
 
 -- What a sink was given at a status: at 0 a text, at 1 the line of a text that was refused, at 7 that of a verdict,
 -- at 4 the front of what was to be given, else the line of the status.
 abbrev pub IsTold : ℕ → List ℕ → Option (List ℕ) → Type 0
 IsTold status before given =
-    Adds before given × (status ≢ 0 → status ≢ 1 → status ≢ 4 → status ≢ 7 → given ≡ Some (before ++ line_of status))
+    AddsBytes before given × (status ≢ 0 → status ≢ 1 → status ≢ 4 → status ≢ 7 → given
+    ≡ Some (before ++ line_of status))
 
 abbrev pub status_of : Ending → ℕ
 status_of (Done text) = 0

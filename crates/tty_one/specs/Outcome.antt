@@ -10,7 +10,7 @@ use Rattle.session_text.specs.declared.faults.BadLine.{BadLine}
 use Rattle.session_text.specs.Refusals.{refusal}
 use Rattle.session_text.specs.Grammar.{Spells}
 use Rattle.session_print.specs.Ends.{PlainEnd}
-use Rattle.session_print.specs.Report.{Told, told_on, answer_by, answer_in, calls_from, ports_from}
+use Rattle.session_print.specs.Report.{ToldCall, told_on, answer_by, answer_in, calls_from, ports_from}
 use Rattle.session_print.specs.Lines.{newline}
 use Rattle.session_print.specs.Journals.{journals_text}
 use Rattle.session_print.specs.Laws.{IsLineOf}
@@ -19,7 +19,8 @@ use Rattle.check_text.specs.Grammar.{Spells as SpellsRuns}
 use Rattle.check_text.specs.Printed.{text_after}
 use Rattle.check_text.specs.Reading.{refusal as refusal_of_runs}
 use Rattle.check_text.specs.Runs.{run_of}
-use Rattle.journal_check.specs.Verdicts.{AreLegal, Fits}
+use Rattle.legal_runs.specs.Ports.{AreLegal}
+use Rattle.journal_check.specs.Verdicts.{VerdictFits}
 use Rattle.journal_check.specs.declared.verdicts.Verdict.{Verdict}
 use Rattle.journal_check.specs.declared.verdicts.Verdict.TheVariants.{Legal}
 use Rattle.tty_one.specs.declared.words.Command.{Command}
@@ -47,7 +48,7 @@ pub record IsJudged (left : Option (List ℕ)) (verdict : Verdict) : Type 0 wher
   pub runs : List PortRun
   pub whole : IsAllOf left read
   pub spelled : SpellsRuns read session (map run_of runs)
-  pub fits : Fits session runs verdict
+  pub fits : VerdictFits session runs verdict
 
 -- The runs that were read were judged, none is returned, and the text tells the verdict.
 pub record IsToldVerdict (left : Option (List ℕ)) (verdict : Verdict) (runs : List PortRun)
@@ -208,7 +209,7 @@ pub record IsAnsweredOnce (es : List PlainEntry) (c step : ℕ) : Type 0 where
   pub printed : answer_in es c step ≡ Some answer
 
 -- The line of a call in a report: the answer that it has is that of the one Answer entry of this caller and step.
-pub record IsOnlyLineOf (p : ℕ) (session : PlainSession) (es : List PlainEntry) (told : Told)
+pub record IsOnlyLineOf (p : ℕ) (session : PlainSession) (es : List PlainEntry) (told : ToldCall)
     (line : List ℕ) : Type 0 where
   pub tells : IsLineOf p session es told line
   pub once : answers_to es tells.caller told.step ≡ tells.answer ∷ []

@@ -11,10 +11,11 @@ use Rattle.job_text.specs.Sessions.{JobsSession}
 use Rattle.job_steps.specs.Derived.{derived, passings_on}
 use Rattle.job_steps.specs.Steps.{first_state}
 use Rattle.job_steps.specs.Order.{AreEventsInTurn}
-use Rattle.job_one.specs.Played.{begun_in, journal_on, port_in, IsLoggedWhole}
+use Rattle.job_one.specs.Played.{begun_in, port_in, IsLoggedWhole}
 use Rattle.further_report.specs.Jobs.{jobs_report_text}
 use Rattle.tty_one.specs.Endings.{IsStatusOr}
 use Rattle.tty_one.specs.Reported.{Returned, IsOrdered, IsToldAs, IsAllOf}
+use Rattle.passed_laws.specs.Sessions.{journal_on}
 
 -- nothing is said of the room behind the names of processes
 abbrev pub bare_proc : Proc → Proc

@@ -1,13 +1,14 @@
 -- What is told of a session that was played: of its runs, each of them whole, and of their ends.
 use Rattle.std.specs.Prelude.{◌<◌, ◌≡◌, ℕ, List, [], Option, None, Some, length, option_map, slice_get, IfSome}
+use Rattle.tty_base.specs.Sizes.{MOST_ENTRIES}
 use Rattle.tty_calls.specs.declared.journals.PortRun.{PortRun}
 use Rattle.tty_calls.specs.Sessions.{PlainSession, session_of}
 use Rattle.tty_terminal.specs.Terminals.{Terminal}
 use Rattle.session_print.specs.Ends.{PlainEnd}
 use Rattle.session_print.specs.Report.{play_text}
 use Rattle.session_print.specs.Summary.{summary_text}
-use Rattle.journal_check.specs.Legal.{IsLegal}
-use Rattle.one_thread.specs.Order.{IsInOneOrder}
+use Rattle.legal_runs.specs.Legal.{IsLegal}
+use Rattle.one_order.specs.Order.{IsInOneOrder}
 use Rattle.passed_calls.specs.declared.logs.Logged.{Logged}
 use Rattle.modem_text.specs.declared.logs.ModemEvent.{ModemEvent}
 use Rattle.job_text.specs.declared.logs.JobEvent.{JobEvent}
@@ -58,7 +59,7 @@ pub record IsWhole (InOrder : ℕ → PlainSession → PortRun → Type 0) (p : 
   pub at_end : end ≡ end_at terminal
   pub legal : IsLegal p session run terminal
   pub in_order : InOrder p session run
-  pub room : length run.journal.items < 4194304
+  pub room : length run.journal.items < MOST_ENTRIES
 
 -- what is told of a session that was played, of the runs of its ports, and of their ends
 abbrev pub text_by : Telling → PlainSession → List PortRun → List PlainEnd → List ℕ

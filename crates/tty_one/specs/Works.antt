@@ -1,5 +1,6 @@
 -- What the work on a command came to, by its ending and its runs: for the functions below the top calls.
 use Rattle.std.specs.Prelude.{◌≡◌, ◌≢◌, ◌≤◌, ◌<◌, ℕ, List, [], Option, None, Some, length, map, option_map}
+use Rattle.tty_base.specs.Sizes.{MOST_ENTRIES, MOST_TEXT}
 use Rattle.tty_base.specs.Contents.{Contents}
 use Rattle.tty_calls.specs.declared.journals.PortRun.{PortRun}
 use Rattle.tty_calls.specs.declared.sessions.Session.{Session}
@@ -10,10 +11,10 @@ use Rattle.session_text.specs.Grammar.{Spells}
 use Rattle.session_print.specs.Ends.{end_of}
 use Rattle.check_text.specs.Reading.{refusal as refusal_of_runs}
 use Rattle.tty_terminal.specs.Terminals.{Terminal}
-use Rattle.journal_check.specs.Short.{IsCutShort}
+use Rattle.legal_runs.specs.Short.{IsCutShort}
 use Rattle.journal_check.specs.declared.verdicts.Verdict.{Verdict}
 use Rattle.journal_check.specs.declared.verdicts.Verdict.TheVariants.{Legal}
-use Rattle.one_thread.specs.declared.playing.Played.{Played}
+use Rattle.play_base.specs.declared.ports.Played.{Played}
 use Rattle.passed_calls.specs.Within.{ArePassedWithin}
 use Rattle.job_text.specs.declared.sessions.JobsSession.{JobsSession as KeptSession}
 use Rattle.job_text.specs.Events.{JobLog, logged_of}
@@ -65,7 +66,7 @@ brought work = record {
 -- ---- reading
 
 -- a text's first wrong line, told by this line
-pub record IsLineOf (first_wrong : List ℕ → Option BadLine) (left : Option (List ℕ)) (line : List ℕ) : Type 0 where
+pub record IsRefusalLine (first_wrong : List ℕ → Option BadLine) (left : Option (List ℕ)) (line : List ℕ) : Type 0 where
   pub bad : BadLine
   pub refused : IsRefused first_wrong left bad
   pub told : line ≡ bad_session_line bad
@@ -73,7 +74,7 @@ pub record IsLineOf (first_wrong : List ℕ → Option BadLine) (left : Option (
 -- how work ends for want of a text that is in its grammar
 abbrev pub IsUnread : (List ℕ → Option BadLine) → Option (List ℕ) → Ending → Type 0
 IsUnread first_wrong left (Done text) = ⊥
-IsUnread first_wrong left (BadSession line) = IsLineOf first_wrong left line.items
+IsUnread first_wrong left (BadSession line) = IsRefusalLine first_wrong left line.items
 IsUnread first_wrong left BadWords = ⊥
 IsUnread first_wrong left ReadFault = Unit {0}
 IsUnread first_wrong left TooLong = Unit {0}
@@ -88,20 +89,20 @@ IsTextRead first_wrong (Ended ending) faults now left rest =
 
 -- a text that was read is no longer than the longest
 abbrev pub IsShortText : Reading (Contents ℕ) → Type 0
-IsShortText (Of text) = length text.items ≤ 4194304
+IsShortText (Of text) = length text.items ≤ MOST_TEXT
 IsShortText (Ended ending) = Unit {0}
 
 -- no journal of the session is ever full
 abbrev pub IsNeverFull : PlainSession → Type 0
 IsNeverFull session =
-    (p : ℕ) (run : PortRun) (t : Terminal) → IsCutShort p session run t → length run.journal.items < 4194304
+    (p : ℕ) (run : PortRun) (t : Terminal) → IsCutShort p session run t → length run.journal.items < MOST_ENTRIES
 
 -- the text that was read spells this, and is no longer than the longest
 pub record IsReadAs (left : Option (List ℕ)) (SpellsIt : List ℕ → Type 0) : Type 0 where
   pub read : List ℕ
   pub whole : IsAllOf left read
   pub spelled : SpellsIt read
-  pub few : length read ≤ 4194304
+  pub few : length read ≤ MOST_TEXT
 
 -- what reading a session came to, which texts spell so, or whose first wrong line is this
 abbrev pub IsRead : {S : Type 0} → (List ℕ → S → Type 0) → (List ℕ → Option BadLine) → Reading S → ℕ → ℕ
@@ -134,25 +135,25 @@ AreModemLinesRead = IsRead SpellsKeptModemLines modem_lines_refusal
 -- how work ends at the first wrong line of a text
 abbrev pub IsRefusal : (List ℕ → Option BadLine) → List ℕ → Ending → Type 0
 IsRefusal first_wrong text (Done report) = ⊥
-IsRefusal first_wrong text (BadSession line) = IsLineOf first_wrong (Some text) line.items
+IsRefusal first_wrong text (BadSession line) = IsRefusalLine first_wrong (Some text) line.items
 IsRefusal first_wrong text BadWords = ⊥
 IsRefusal first_wrong text ReadFault = ⊥
 IsRefusal first_wrong text TooLong = ⊥
 IsRefusal first_wrong text (NotLegal line) = ⊥
 
 -- what a text is read as
-abbrev pub IsIn : {S : Type 0} → (List ℕ → S → Type 0) → (List ℕ → Option BadLine) → List ℕ → Reading S → Type 0
-IsIn SpellsIt first_wrong text (Of session) = SpellsIt text session
-IsIn SpellsIt first_wrong text (Ended ending) = IsRefusal first_wrong text ending
+abbrev pub IsReadIn : {S : Type 0} → (List ℕ → S → Type 0) → (List ℕ → Option BadLine) → List ℕ → Reading S → Type 0
+IsReadIn SpellsIt first_wrong text (Of session) = SpellsIt text session
+IsReadIn SpellsIt first_wrong text (Ended ending) = IsRefusal first_wrong text ending
 
 abbrev pub IsSessionIn : List ℕ → Reading Session → Type 0
-IsSessionIn = IsIn SpellsKept refusal
+IsSessionIn = IsReadIn SpellsKept refusal
 
 abbrev pub AreConsolesIn : List ℕ → Reading VtSession → Type 0
-AreConsolesIn = IsIn SpellsKeptConsoles consoles_refusal
+AreConsolesIn = IsReadIn SpellsKeptConsoles consoles_refusal
 
 abbrev pub AreModemLinesIn : List ℕ → Reading KeptModemSession → Type 0
-AreModemLinesIn = IsIn SpellsKeptModemLines modem_lines_refusal
+AreModemLinesIn = IsReadIn SpellsKeptModemLines modem_lines_refusal
 
 -- ---- playing
 
@@ -197,7 +198,7 @@ IsVerdictEnding verdict (NotLegal line) = (verdict ≢ Legal) × (line.items ≡
 -- how the journals of a text end the work
 abbrev pub IsJudgedText : List ℕ → Ending → Type 0
 IsJudgedText text (Done report) = IsToldVerdict (Some text) Legal [] report.items
-IsJudgedText text (BadSession line) = IsLineOf refusal_of_runs (Some text) line.items
+IsJudgedText text (BadSession line) = IsRefusalLine refusal_of_runs (Some text) line.items
 IsJudgedText text BadWords = ⊥
 IsJudgedText text ReadFault = ⊥
 IsJudgedText text TooLong = ⊥
@@ -208,7 +209,7 @@ IsJudgedText text (NotLegal line) = IsIllegal (Some text) [] line.items
 -- what playing a session of consoles needs
 pub record CanBePlayed (session : PlainVtSession) : Type 0 where
   pub within : IsWithinKeys session
-  pub room : length (entries_in_order session) < 4194304
+  pub room : length (entries_in_order session) < MOST_ENTRIES
   pub never_full : (entries : List VtEntry) → IsNeverFull (keyed session entries)
 
 -- of a session of consoles, which was played so
@@ -264,7 +265,7 @@ IsReportOfProcesses session ran (NotLegal line) = ⊥
 -- of a text of processes
 abbrev pub IsProcessesText : List ℕ → Ending → Returned → Type 0
 IsProcessesText text (Done report) back = IsToldOfProcesses (Some text) back report.items
-IsProcessesText text (BadSession line) back = (back ≡ nothing) × IsLineOf processes_refusal (Some text) line.items
+IsProcessesText text (BadSession line) back = (back ≡ nothing) × IsRefusalLine processes_refusal (Some text) line.items
 IsProcessesText text BadWords back = ⊥
 IsProcessesText text ReadFault back = ⊥
 IsProcessesText text TooLong back = ⊥
@@ -315,14 +316,14 @@ IsIllegalBy VtOne left runs line = ⊥
 -- of a command, where a source had all this left
 abbrev pub IsWork : Command → Option (List ℕ) → Ending → Returned → Type 0
 IsWork command left (Done report) back = IsToldBy command left back report.items
-IsWork command left (BadSession line) back = (back ≡ nothing) × IsLineOf (refusal_by command) left line.items
+IsWork command left (BadSession line) back = (back ≡ nothing) × IsRefusalLine (refusal_by command) left line.items
 IsWork command left BadWords back = back ≡ nothing
 IsWork command left ReadFault back = back ≡ nothing
 IsWork command left TooLong back = back ≡ nothing
 IsWork command left (NotLegal line) back = (back ≡ nothing) × IsIllegalBy command left back.runs line.items
 
--- beside runs only consoles bring entries, and only ports with modem lines and processes a log, and the session that they
--- were played
+-- beside runs only consoles bring entries, and only ports with modem lines and processes a log, and the session that
+-- they were played
 abbrev pub RunsAlone : Returned → Type 0
 RunsAlone back = (back.entries ≡ []) × (back.modem_log ≡ []) × (back.log ≡ []) × (back.derived ≡ None)
 
@@ -343,20 +344,20 @@ HasOwn Vt back = BoardAlone back
 HasOwn VtOne back = BoardAlone back
 
 -- only a command that reads can be refused what it reads
-abbrev pub CanEnd : Command → Ending → Type 0
-CanEnd (Run journals) ending = Unit {0}
-CanEnd (RunOne journals) ending = Unit {0}
-CanEnd Modem ending = Unit {0}
-CanEnd Jobs ending = Unit {0}
-CanEnd (Gen number) (Done report) = Unit {0}
-CanEnd (Gen number) (BadSession line) = ⊥
-CanEnd (Gen number) BadWords = ⊥
-CanEnd (Gen number) ReadFault = ⊥
-CanEnd (Gen number) TooLong = ⊥
-CanEnd (Gen number) (NotLegal line) = ⊥
-CanEnd Check ending = Unit {0}
-CanEnd Vt ending = Unit {0}
-CanEnd VtOne ending = Unit {0}
+abbrev pub CanEndWith : Command → Ending → Type 0
+CanEndWith (Run journals) ending = Unit {0}
+CanEndWith (RunOne journals) ending = Unit {0}
+CanEndWith Modem ending = Unit {0}
+CanEndWith Jobs ending = Unit {0}
+CanEndWith (Gen number) (Done report) = Unit {0}
+CanEndWith (Gen number) (BadSession line) = ⊥
+CanEndWith (Gen number) BadWords = ⊥
+CanEndWith (Gen number) ReadFault = ⊥
+CanEndWith (Gen number) TooLong = ⊥
+CanEndWith (Gen number) (NotLegal line) = ⊥
+CanEndWith Check ending = Unit {0}
+CanEndWith Vt ending = Unit {0}
+CanEndWith VtOne ending = Unit {0}
 
 -- a command that reads nothing
 abbrev pub ReadsNothing : Command → Type 0

@@ -1,6 +1,6 @@
 //! Sessions of consoles that are read and played on one thread, and what is told of them.
 
-ghost use Rattle.std.specs.Prelude.{◌≡◌, ◌≤◌, [], IfOk, IfSome, OnErr, length};
+ghost use Rattle.std.specs.Prelude.{◌≡◌, IfOk, IfSome, OnErr};
 ghost use Rattle.tty_base.specs.Outside.{LeavesRest};
 ghost use Rattle.vt_text.specs.Sessions.{vt_session_of};
 ghost use Rattle.tty_one.specs.declared.words.Command.TheVariants.{VtOne};
@@ -11,7 +11,7 @@ ghost use Rattle.tty_one.specs.Works.{IsConsolesWork, IsReportOf, IsWork, of_con
 
 use crate::reading::{Reading, read_text, refusal_line};
 use crate::works::{Ending, JobLogs, ModemLogs, VtEntries, Work};
-use one_thread::Played;
+use play_base::Played;
 use session_text::TextFault;
 use std::alloc::Global;
 use tty_base::{NoMemory, Source};

@@ -1,6 +1,7 @@
 //! Journals that are read and judged.
 
 ghost use Rattle.std.specs.Prelude.{◌≡◌, ◌≤◌, [], IfOk, IfSome, OnErr, length};
+ghost use Rattle.tty_base.specs.Sizes.{MOST_TEXT};
 ghost use Rattle.tty_base.specs.Outside.{LeavesRest};
 ghost use Rattle.tty_one.specs.Endings.{verdict_line, IsShort, IsOfSource};
 ghost use Rattle.tty_one.specs.declared.words.Command.TheVariants.{Check};
@@ -35,7 +36,7 @@ pub(crate) fn run_check<S: Source>(alloc: Global, source: &mut S) -> Result<Work
 
 /// What is told of the journals of a text.
 fn judged_text(alloc: Global, text: &[u8]) -> Result<Ending, NoMemory>
-    requires { length text.now ≤ 4194304 }
+    requires { length text.now ≤ MOST_TEXT }
     ensures { IfOk result (λ ending. IsJudgedText text.now ending) }
 {
     match parse_check(alloc, text) {

@@ -2,6 +2,7 @@
 //! ever full, and journals that are printed are legal.
 
 ghost use Rattle.std.specs.Prelude.{◌≡◌, ◌<◌, ◌≤◌, ℕ, List, Bool, true, Ok, Option, Some, length};
+ghost use Rattle.tty_base.specs.Sizes.{MOST_ENTRIES, MOST_TEXT};
 ghost use Rattle.tty_calls.specs.declared.journals.PortRun.{PortRun};
 ghost use Rattle.tty_calls.specs.Plain.{PlainCall};
 ghost use Rattle.tty_calls.specs.Sessions.{PlainSession, call_at};
@@ -10,8 +11,8 @@ ghost use Rattle.tty_terminal.specs.Terminals.{Terminal};
 ghost use Rattle.tty_terminal.specs.Runs.{chars_of};
 ghost use Rattle.uart_line.specs.Offered.{kept_list};
 ghost use Rattle.session_text.specs.Grammar.{Spells};
-ghost use Rattle.journal_check.specs.Legal.{IsLegal};
-ghost use Rattle.journal_check.specs.Short.{IsCutShort};
+ghost use Rattle.legal_runs.specs.Legal.{IsLegal};
+ghost use Rattle.legal_runs.specs.Short.{IsCutShort};
 ghost use Rattle.tty_one.specs.declared.playing.Telling.{Telling};
 ghost use Rattle.tty_one.specs.declared.playing.Telling.TheVariants.{Report};
 ghost use Rattle.vt_consoles.specs.declared.entries.VtEntry.{VtEntry};
@@ -26,10 +27,10 @@ ghost use Rattle.modem_one.specs.Played.{derived_with as derived_with_lines};
 ghost use Rattle.vt_text.specs.Sessions.{PlainVtSession};
 ghost use Rattle.vt_account.specs.Account.{IsAccount};
 ghost use Rattle.vt_account.specs.Keyed.{keyed, keys_of};
-ghost use Rattle.tty_one.specs.Endings.{AreRunOne, AreGen, AskJobs, AskJournals, AskVtOne};
+ghost use Rattle.tty_one.specs.Endings.{AreRunOne, AreGen, AskJobs, AskJournals, AskModem, AskVtOne};
 ghost use Rattle.tty_one.specs.Reported.{Returned, IsReported, IsOrdered, IsInAnyOrder};
 ghost use Rattle.tty_one.specs.Processes.{bare_of, given_to, AreProcessesPlayed};
-ghost use Rattle.tty_one.specs.ModemLines.{SpellsModemLines, given_to as given_with_lines};
+ghost use Rattle.tty_one.specs.ModemLines.{SpellsModemLines, AreModemLinesPlayed, given_to as given_with_lines};
 ghost use Rattle.tty_one.specs.Consoles.{AreConsolesInOrder, EachKeyGoes, SpellsConsoles};
 ghost use Rattle.tty_one.specs.Outcome.{IsAnsweredOnce, IsDone, GaveTheSame, TellsEachOnce, IsReadBack, GaveJournals};
 
@@ -78,9 +79,9 @@ pub fn a_session_has_one_report()
 pub fn no_journal_is_ever_full()
     ensures { (text : List ℕ) (session : PlainSession) (p : ℕ) (run : PortRun) (t : Terminal)
         → Spells text session
-        → length text ≤ 4194304
+        → length text ≤ MOST_TEXT
         → IsCutShort p session run t
-        → length run.journal.items < 4194304 }
+        → length run.journal.items < MOST_ENTRIES }
 {}
 
 /// A law: no journal of a console is ever full. A run of a console of a session that a text of at most 4,194,304 bytes
@@ -88,9 +89,9 @@ pub fn no_journal_is_ever_full()
 pub fn no_journal_of_a_console_is_ever_full()
     ensures { (text : List ℕ) (session : PlainVtSession) (entries : List VtEntry) (p : ℕ) (run : PortRun) (t : Terminal)
         → SpellsConsoles text session
-        → length text ≤ 4194304
+        → length text ≤ MOST_TEXT
         → IsCutShort p (keyed session entries) run t
-        → length run.journal.items < 4194304 }
+        → length run.journal.items < MOST_ENTRIES }
 {}
 
 /// A law: no journal of a session of processes is ever full. A run of the session that its ports were played, as far as
@@ -99,10 +100,10 @@ pub fn no_journal_of_processes_is_ever_full()
     ensures { (text : List ℕ) (session : JobsSession) (log : JobLog) (runs : List PortRun) (p : ℕ) (run : PortRun)
         (t : Terminal)
         → jobs_in text ≡ Ok (bare_of session)
-        → length text ≤ 4194304
+        → length text ≤ MOST_TEXT
         → ArePassedWithin (given_to session log runs)
         → IsCutShort p (derived_with session log runs) run t
-        → length run.journal.items < 4194304 }
+        → length run.journal.items < MOST_ENTRIES }
 {}
 
 /// A law: no journal of a session of ports with modem lines is ever full. A run of the session that its ports were
@@ -112,10 +113,10 @@ pub fn no_journal_with_modem_lines_is_ever_full()
     ensures { (text : List ℕ) (session : ModemSession) (log : ModemLog) (runs : List PortRun) (p : ℕ) (run : PortRun)
         (t : Terminal)
         → SpellsModemLines text session
-        → length text ≤ 4194304
+        → length text ≤ MOST_TEXT
         → ArePassedWithin (given_with_lines session log runs)
         → IsCutShort p (derived_with_lines session log runs) run t
-        → length run.journal.items < 4194304 }
+        → length run.journal.items < MOST_ENTRIES }
 {}
 
 /// A law: each key goes to one console, and is received there once. By the account of its board each key of a session
@@ -161,6 +162,21 @@ pub fn processes_have_one_report()
     ensures read { (words : List (List ℕ)) (bytes before before' : List ℕ) (now now' : Option (List ℕ))
         (back other : Returned)
         → AskJobs words
+        → IsDone words (Some bytes) (Some before) now back
+        → IsDone words (Some bytes) (Some before') now' other
+        → GaveTheSame before before' now now' }
+{}
+
+/// A law: a session of ports with modem lines has one report on one thread. So two calls of `tty_one` that ended with 0
+/// gave the same bytes by `modem` where they read the same text.
+pub fn modem_sessions_have_one_report()
+    ensures report { (session : ModemSession) (back other : Returned) (text told : List ℕ)
+        → AreModemLinesPlayed session back text
+        → AreModemLinesPlayed session other told
+        → text ≡ told }
+    ensures read { (words : List (List ℕ)) (bytes before before' : List ℕ) (now now' : Option (List ℕ))
+        (back other : Returned)
+        → AskModem words
         → IsDone words (Some bytes) (Some before) now back
         → IsDone words (Some bytes) (Some before') now' other
         → GaveTheSame before before' now now' }

@@ -18,9 +18,10 @@ mod works;
 pub use consoles::{read_consoles, work_of_consoles};
 pub use laws::{
     a_session_has_one_report, consoles_have_one_report, each_call_has_one_line,
-    keys_are_received_once, no_journal_is_ever_full, no_journal_of_a_console_is_ever_full,
-    no_journal_of_processes_is_ever_full, no_journal_with_modem_lines_is_ever_full,
-    printed_journals_are_legal, processes_have_one_report,
+    keys_are_received_once, modem_sessions_have_one_report, no_journal_is_ever_full,
+    no_journal_of_a_console_is_ever_full, no_journal_of_processes_is_ever_full,
+    no_journal_with_modem_lines_is_ever_full, printed_journals_are_legal,
+    processes_have_one_report,
 };
 pub use playing::{Telling, work_of};
 pub use reading::{Reading, read_session};

@@ -10,11 +10,12 @@ ghost use Rattle.tty_one.specs.Endings.{IsShort, IsOfSource};
 ghost use Rattle.tty_one.specs.Reported.{IsOrdered, text_by as text_of_telling};
 ghost use Rattle.tty_one.specs.declared.playing.Telling.TheVariants.{Summary};
 ghost use Rattle.tty_one.specs.declared.words.Command.TheVariants.{RunOne, Gen};
-ghost use Rattle.tty_one.specs.Works.{brought, IsWork, IsSessionWork, IsEndingOf, CanEnd, IsNeverFull, RunsAlone};
+ghost use Rattle.tty_one.specs.Works.{brought, IsWork, IsSessionWork, IsEndingOf, CanEndWith, IsNeverFull, RunsAlone};
 
 use crate::reading::{Reading, read_session};
 use crate::works::{Ending, JobLogs, ModemLogs, VtEntries, Work};
-use one_thread::{Played, play};
+use one_thread::play;
+use play_base::Played;
 use session_gen::make;
 use session_print::{play_text, summary};
 use std::alloc::Global;
@@ -54,7 +55,7 @@ pub(crate) fn run_one<S: Source>(
 pub(crate) fn run_number(alloc: Global, number: u32) -> Result<Work, NoMemory>
     ensures played { IfOk result
         (λ work. IsSessionWork IsOrdered (Summary number) (generated_session number) work.ending work.runs.items) }
-    ensures can { IfOk result (λ work. CanEnd (Gen number) work.ending) }
+    ensures can { IfOk result (λ work. CanEndWith (Gen number) work.ending) }
     ensures own { IfOk result (λ work. RunsAlone (brought work)) }
 {
     let session = make(alloc, number)?;

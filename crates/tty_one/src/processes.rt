@@ -1,6 +1,7 @@
 //! Sessions of processes that are read and played on one thread, and what is told of them.
 
 ghost use Rattle.std.specs.Prelude.{◌≡◌, ◌≤◌, [], Some, IfOk, IfSome, OnErr, length};
+ghost use Rattle.tty_base.specs.Sizes.{MOST_TEXT};
 ghost use Rattle.tty_base.specs.Outside.{LeavesRest};
 ghost use Rattle.tty_calls.specs.Sessions.{session_of};
 ghost use Rattle.job_text.specs.Sessions.{jobs_session_of};
@@ -35,7 +36,7 @@ pub(crate) fn run_jobs<S: Source>(alloc: Global, source: &mut S) -> Result<Work,
 
 /// What comes of a text of processes.
 fn work_on_text(alloc: Global, text: &[u8]) -> Result<Work, NoMemory>
-    requires { length text.now ≤ 4194304 }
+    requires { length text.now ≤ MOST_TEXT }
     ensures told { IfOk result (λ work. IsProcessesText text.now work.ending (brought work)) }
     ensures own { IfOk result (λ work. HasOwn Jobs (brought work)) }
 {

@@ -9,11 +9,9 @@ ghost use Rattle.tty_one.specs.Works.{IsTextRead, IsShortText, IsSessionRead, Is
 use crate::works::Ending;
 use session_text::{BadLine, Reason, TextFault, parse};
 use std::alloc::Global;
+use tty_base::sizes::MOST_TEXT;
 use tty_base::{Bytes, NoMemory, Source, TakeFault, read_all};
 use tty_calls::Session;
-
-/// The longest text that is read, in bytes.
-const LONGEST: usize = 4_194_304;
 
 /// What reading came to: what was read, or how the work ended for want of it.
 #[derive(Drop)]
@@ -34,7 +32,7 @@ pub(crate) fn read_text<S: Source>(
     ensures short { OnErr result (IsShort (S.left source.old) (S.left source.new)) }
     ensures rest { IfSome (S.left source.old) (λ bytes. LeavesRest bytes (S.left source.new)) }
 {
-    match read_all(alloc, source, LONGEST) {
+    match read_all(alloc, source, MOST_TEXT) {
         Ok(text) => Ok(Reading::Of(text)),
         Err(TakeFault::ReadFault) => Ok(Reading::Ended(Ending::ReadFault)),
         Err(TakeFault::TooLong) => Ok(Reading::Ended(Ending::TooLong)),

@@ -1,6 +1,7 @@
 //! The top call without threads: it does what the words ask for, and ends with a status.
 
 ghost use Rattle.std.specs.Prelude.{◌≡◌, ◌⊎◌, ◌≢◌, ◌≤◌, [], None, IfSome, IfOk, OnErr, length};
+ghost use Rattle.tty_base.specs.Sizes.{MOST_TEXT};
 ghost use Rattle.tty_base.specs.Outside.{Rose, TookCount, LeavesRest};
 ghost use Rattle.tty_one.specs.Endings.{AreOfOne, IsOfOne, AreRunOne, AreGen, AskCheck, AskModem, AskJobs, AskVtOne};
 ghost use Rattle.tty_one.specs.Endings.{AskOneToRead, IsStatus, IsStatusOr, IsShort, IsOfSource, IsTold, texts_of};
@@ -9,7 +10,7 @@ ghost use Rattle.tty_one.specs.Consoles.{CompletesConsoles};
 ghost use Rattle.tty_one.specs.Processes.{CompletesProcesses};
 ghost use Rattle.tty_one.specs.ModemLines.{CompletesModemLines};
 ghost use Rattle.tty_one.specs.Outcome.{IsDone, IsToldRefused, IsToldIllegal, IsBroken, Completes, CompletesCheck};
-ghost use Rattle.tty_one.specs.Works.{brought, IsWork, HasOwn, CanEnd, ReadsNothing};
+ghost use Rattle.tty_one.specs.Works.{brought, IsWork, HasOwn, CanEndWith, ReadsNothing};
 
 use crate::consoles::run_vt;
 use crate::judging::run_check;
@@ -29,8 +30,8 @@ use tty_base::{NoMemory, Sink, Source};
 ///
 /// The words are `run --one`, and with journals `run --one --journal` or `run --journal --one`; `gen` with a
 /// number up to 4,294,967,295, whose session is played and nothing read; `check`; and `vt --one`, by which a session of
-/// consoles is read and played; `modem`, by which a session of ports with modem lines is; and `jobs`, by which a session
-/// of processes is. The words that ask for threads are other words here.
+/// consoles is read and played; `modem`, by which a session of ports with modem lines is; and `jobs`, by which a
+/// session of processes is. The words that ask for threads are other words here.
 pub fn tty_one<S: Source, K: Sink>(
     alloc: Global,
     words: &[&str],
@@ -55,8 +56,8 @@ pub fn tty_one<S: Source, K: Sink>(
     // legal and in the order of one thread, and the sink was given the text of that session and these
     // runs, or their summary. Or the runs that the text spells are all legal, and it was given that. Or the text
     // spells a session of consoles, and each of them and their board was played likewise. Or it spells a session of
-    // ports with modem lines, or of processes: each run is legal, and in order, for the session that the log passes down
-    // to the ports, which is returned; and the log has just what the modem lines, or job control, say.
+    // ports with modem lines, or of processes: each run is legal, and in order, for the session that the log passes
+    // down to the ports, which is returned; and the log has just what the modem lines, or job control, say.
     ensures done { result.status ≡ 0
         → IsDone (texts_of words.now) (S.left source.old) (K.given sink.old) (K.given sink.new) (returned result) }
     // 1: the text that was read is not in its grammar, and the sink was given its first wrong line.
@@ -81,23 +82,23 @@ pub fn tty_one<S: Source, K: Sink>(
     ensures rest { IfSome (S.left source.old) (λ bytes. LeavesRest bytes (S.left source.new)) }
     // Where a session is to be read and reading did not fail, a text that spells a session is played, and
     // one that spells none is refused, unless the text could not be given or memory was wanting.
-    ensures complete { IfSome (S.left source.old) (λ bytes. AreRunOne (texts_of words.now) → length bytes ≤ 4194304
+    ensures complete { IfSome (S.left source.old) (λ bytes. AreRunOne (texts_of words.now) → length bytes ≤ MOST_TEXT
         → (Rose (S.faults source.old) (S.faults source.new) → ⊥) → Completes bytes result.status) }
     // The session of a number is played, unless its summary could not be given or memory was wanting, and
     // nothing is read.
     ensures made { AreGen (texts_of words.now) → IsStatusOr 0 result.status }
     ensures unread { AreGen (texts_of words.now) → source.new ≡ source.old }
     // Likewise journals are judged: 0 exactly where every run is legal, else 7.
-    ensures judged { IfSome (S.left source.old) (λ bytes. AskCheck (texts_of words.now) → length bytes ≤ 4194304
+    ensures judged { IfSome (S.left source.old) (λ bytes. AskCheck (texts_of words.now) → length bytes ≤ MOST_TEXT
         → (Rose (S.faults source.old) (S.faults source.new) → ⊥) → CompletesCheck bytes result.status) }
     // Likewise a text that spells a session of consoles is played, and one that spells none is refused.
-    ensures consoles { IfSome (S.left source.old) (λ bytes. AskVtOne (texts_of words.now) → length bytes ≤ 4194304
+    ensures consoles { IfSome (S.left source.old) (λ bytes. AskVtOne (texts_of words.now) → length bytes ≤ MOST_TEXT
         → (Rose (S.faults source.old) (S.faults source.new) → ⊥) → CompletesConsoles bytes result.status) }
     // .. and a session of ports with modem lines.
-    ensures modem_lines { IfSome (S.left source.old) (λ bytes. AskModem (texts_of words.now) → length bytes ≤ 4194304
+    ensures modem_lines { IfSome (S.left source.old) (λ bytes. AskModem (texts_of words.now) → length bytes ≤ MOST_TEXT
         → (Rose (S.faults source.old) (S.faults source.new) → ⊥) → CompletesModemLines bytes result.status) }
     // .. and a session of processes.
-    ensures processes { IfSome (S.left source.old) (λ bytes. AskJobs (texts_of words.now) → length bytes ≤ 4194304
+    ensures processes { IfSome (S.left source.old) (λ bytes. AskJobs (texts_of words.now) → length bytes ≤ MOST_TEXT
         → (Rose (S.faults source.old) (S.faults source.new) → ⊥) → CompletesProcesses bytes result.status) }
 {
     let Some(command) = command_of(words) else {
@@ -116,7 +117,7 @@ fn work_on<S: Source>(alloc: Global, source: &mut S, command: Command) -> Result
         IsOfSource work.ending (S.faults source.old) (S.faults source.new) (S.left source.old) (S.left source.new)) }
     ensures work { IfOk result (λ work. IsWork command (S.left source.old) work.ending (brought work)) }
     ensures own { IfOk result (λ work. HasOwn command (brought work)) }
-    ensures can { IfOk result (λ work. CanEnd command work.ending) }
+    ensures can { IfOk result (λ work. CanEndWith command work.ending) }
     ensures short { OnErr result (IsShort (S.left source.old) (S.left source.new)) }
     ensures rest { IfSome (S.left source.old) (λ bytes. LeavesRest bytes (S.left source.new)) }
     ensures unread { ReadsNothing command → source.new ≡ source.old }

@@ -1,37 +1,33 @@
 -- What one turn with the port adds to its history.
-use Rattle.std.proofs.Common.{◌≡◌, ◌⊎◌, inl, inr, ℕ, ◌+◌, ◌<◌, ◌≤◌, ◌^◌, zero, suc, nat_lt, List, []}
-use Rattle.std.proofs.Common.{◌∷◌, ◌++◌, Bool, true, false, IsTrue, ◌==◌, MatchBool, if◌then◌else◌}
+use Rattle.std.proofs.Common.{◌≡◌, inl, inr, ℕ, ◌+◌, ◌<◌, ◌^◌, zero, suc, nat_lt, List, []}
+use Rattle.std.proofs.Common.{◌∷◌, ◌++◌, Bool, true, false, ◌==◌, MatchBool, if◌then◌else◌}
 use Rattle.std.proofs.Common.{Option, None, Some, is_some, length, sum, refl, sym, ◌∙◌, ap, subst, arith}
-use Rattle.std.proofs.lemmas.Bool.{eqb-true, eq-eqb, false≢true}
+use Rattle.std.proofs.lemmas.Bool.{eq-eqb, false≢true}
 use Rattle.std.proofs.lemmas.Bool.Decides.{nat_tests}
+use Rattle.tty_base.specs.Sizes.{MOST_HANDLES}
 use Rattle.tty_base.specs.declared.characters.Flagged.{Flagged}
 use Rattle.word_ring.specs.Ends.{TakerState}
 use Rattle.tty_calls.specs.declared.answers.Denied.{Denied}
 use Rattle.tty_calls.specs.declared.answers.Denied.TheVariants.{NoMemory, Full}
 use Rattle.tty_calls.specs.declared.journals.Who.{Who}
-use Rattle.tty_calls.specs.declared.journals.Who.TheVariants.{Caller, Flusher, Line, Clock, Session}
 use Rattle.tty_calls.specs.Plain.{PlainCall, handle_of, PlainAnswer, PlainEvent, answered, parted, waited, PlainEntry}
 use Rattle.tty_calls.specs.Limits.{byte_count}
-use Rattle.tty_terminal.specs.declared.callers.CallerState.{CallerState}
-use Rattle.tty_terminal.specs.Terminals.{Terminal, opening, caller_at, has_begun}
-use Rattle.tty_terminal.specs.Calls.{outcome, outcome_of}
-use Rattle.tty_terminal.specs.Steps.{quiet, Allowed, after}
-use Rattle.tty_terminal.specs.Meeting.{drops_of}
+use Rattle.tty_terminal.specs.Terminals.{caller_at, has_begun}
+use Rattle.tty_terminal.specs.Steps.{quiet}
 use Rattle.tty_terminal.specs.Runs.{is_of_call}
-use Rattle.tty_terminal.specs.Standing.{Standing, standing_of, standing_after, standing_after_own, standing_after_other}
+use Rattle.tty_terminal.specs.Standing.{Standing, standing_after_own, standing_after_other}
 use Rattle.tty_terminal.proofs.Effects.{outcome_keeps}
 use Rattle.tty_terminal.proofs.WaitLaws.{run_parts}
 use Rattle.port_core.specs.Ports.{PortValue, IsPort, call_in, with_entry, with_call}
-use Rattle.port_core.specs.Ports.{kept_with, caller_entry, Appends, Denies}
-use Rattle.port_core.specs.Flips.{DropsShown}
+use Rattle.port_core.specs.Ports.{caller_entry, Appends, Denies}
 use Rattle.port_core.specs.Attempts.{IsReady, PlainTried, done_by, took_part, must_wait, Attempts, Raises}
 use Rattle.port_core.proofs.Calls.{grows_kept, known_call}
 use Rattle.port_cell.specs.declared.kept.Stamped.{Stamped}
 use Rattle.port_cell.specs.Entries.{generation_of}
-use Rattle.tty_port.specs.Inside.{Name, EntryWithCall}
-use Rattle.tty_port.specs.Histories.{seat_of, call_by, call_for, stamped_entry, history, history_in, name_in}
-use Rattle.tty_port.specs.Seen.{entries_in, standing_at, IsBetween}
-use Rattle.tty_port.specs.Adding.{Adds, IsOf, IsFull, IsOfStep, IsTold, IsUnderWay, Tries}
+use Rattle.tty_port.specs.Inside.{EntryWithCall}
+use Rattle.tty_port.specs.Histories.{call_by, stamped_entry, history, history_in, name_in}
+use Rattle.tty_port.specs.Seen.{standing_at}
+use Rattle.tty_port.specs.Adding.{IsOf, IsFull, IsOfStep, IsToldCall, IsUnderWay, TriesCall}
 use Rattle.tty_port.proofs.Histories.{history_length, history_adds, port_generation, port_stands, standing_append}
 
 -- ---- what the caller of a call knows is what the port needs
@@ -45,7 +41,7 @@ told_step m f c step call e now h =
     sym (ap (λ (w : Who). call_by f w e.step) h.who ∙ ap (λ (k : ℕ). f c k) h.at_step) ∙ of
 
 told_call : (m : ℕ) (f : ℕ → ℕ → Option PlainCall) (c step : ℕ) (call : PlainCall) (es : List PlainEntry) (now : ℕ)
-    → IsTold c step call (history m f es now)
+    → IsToldCall c step call (history m f es now)
     → f c step ≡ Some call
 told_call m f c step call [] now h = absurd h
 told_call m f c step call (e ∷ es) now (inl h) = told_step m f c step call e _ h
@@ -54,7 +50,7 @@ told_call m f c step call (e ∷ es) now (inr h) = told_call m f c step call es 
 pub is_ready : (m : ℕ) (v : PortValue) (c step : ℕ) (call : PlainCall)
     → IsPort v
     → c < sum v.counts
-    → handle_of call < 32
+    → handle_of call < MOST_HANDLES
     → byte_count call < 2 ^ 32
     → IsUnderWay c step call (generation_of (history_in m v)) (history_in m v)
     → IsReady v c step call
@@ -126,7 +122,7 @@ is_of m v c step call flip event p r of = record {
 
 told_last : (c step : ℕ) (call : PlainCall) (xs : List (Stamped EntryWithCall)) (x : Stamped EntryWithCall)
     → IsOfStep c step call x
-    → IsTold c step call (xs ++ x ∷ [])
+    → IsToldCall c step call (xs ++ x ∷ [])
 told_last c step call [] x h = inl h
 told_last c step call (y ∷ ys) x h = inr (told_last c step call ys x h)
 
@@ -134,7 +130,7 @@ is_told : (m : ℕ) (v : PortValue) (c step : ℕ) (call : PlainCall) (flip : Ta
     → IsPort v
     → IsReady v c step call
     → is_of_call event ≡ true
-    → IsTold c step call (history_in m v ++ entry_of m v c step call flip event ∷ [])
+    → IsToldCall c step call (history_in m v ++ entry_of m v c step call flip event ∷ [])
 is_told m v c step call flip event p r of =
     told_last c step call (history_in m v) (entry_of m v c step call flip event)
     (record { who = refl; at_step = sym r.next; of_call = of; keeps = keeps_call m v c step call flip event p r of })
@@ -165,13 +161,13 @@ done : (m : ℕ) (old new : PortValue) (c step : ℕ) (call : PlainCall) (a : Pl
     → IsReady old c step call
     → IsUnderWay c step call (generation_of (history_in m old)) (history_in m old)
     → Attempts old new c step call (done_by a)
-    → Tries c step call (history_in m old) (history_in m new) (done_by a)
+    → TriesCall c step call (history_in m old) (history_in m new) (done_by a)
 done m old new c step call a p r u h =
     let flip = new.flip in
     let event = answered a h.dropped in
     let x = entry_of m old c step call flip event in
     let st = stands m old c step call flip event in
-    let goal : Tries c step call (history_in m old) (history_in m old ++ x ∷ []) (done_by a) = (
+    let goal : TriesCall c step call (history_in m old) (history_in m old ++ x ∷ []) (done_by a) = (
       record {
         entry = x;
         added = refl;
@@ -184,7 +180,7 @@ done m old new c step call a p r u h =
         not_begun = ap (λ (s : Standing). s.begun) st;
       },
     ) in
-    subst (λ (xs : List (Stamped EntryWithCall)). Tries c step call (history_in m old) xs (done_by a))
+    subst (λ (xs : List (Stamped EntryWithCall)). TriesCall c step call (history_in m old) xs (done_by a))
     (sym (ap (history_in m) h.appends.appended ∙ adds_to m old c step call flip event p)) goal
 
 took : (m : ℕ) (old new : PortValue) (c step : ℕ) (call : PlainCall)
@@ -192,7 +188,7 @@ took : (m : ℕ) (old new : PortValue) (c step : ℕ) (call : PlainCall)
     → IsReady old c step call
     → IsUnderWay c step call (generation_of (history_in m old)) (history_in m old)
     → Attempts old new c step call took_part
-    → Tries c step call (history_in m old) (history_in m new) took_part
+    → TriesCall c step call (history_in m old) (history_in m new) took_part
 took m old new c step call p r u h =
     let flip = old.flip in
     let event = parted h.count in
@@ -205,7 +201,7 @@ took m old new c step call p r u h =
     h.count h.appends.allowed.1.takes).own in
     let own_now : nat_lt 0 s.parts ≡ true → s.generation ≡ old.terminal.generation = λ lt.
     sym (ap (λ (k : Standing). k.generation) of) ∙ own (ap (λ (k : Standing). nat_lt 0 k.parts) of ∙ lt) in
-    let goal : Tries c step call (history_in m old) (history_in m old ++ x ∷ []) took_part = (
+    let goal : TriesCall c step call (history_in m old) (history_in m old ++ x ∷ []) took_part = (
       record {
         entry = x;
         added = refl;
@@ -223,7 +219,7 @@ took m old new c step call p r u h =
       },
       ap (λ (k : Standing). k.waits) st,
     ) in
-    subst (λ (xs : List (Stamped EntryWithCall)). Tries c step call (history_in m old) xs took_part)
+    subst (λ (xs : List (Stamped EntryWithCall)). TriesCall c step call (history_in m old) xs took_part)
     (sym (ap (history_in m) h.appends.appended ∙ adds_to m old c step call flip event p)) goal
 
 -- it waits already
@@ -232,11 +228,11 @@ still : (m : ℕ) (old new : PortValue) (c step : ℕ) (call : PlainCall)
     → IsUnderWay c step call (generation_of (history_in m old)) (history_in m old)
     → is_some (caller_at old.terminal c).waits ≡ true
     → new ≡ old
-    → Tries c step call (history_in m old) (history_in m new) must_wait
+    → TriesCall c step call (history_in m old) (history_in m new) must_wait
 still m old new c step call p u waits same =
     let xs = history_in m old in
     let st = port_stands m old p c in
-    let goal : Tries c step call xs xs must_wait = (
+    let goal : TriesCall c step call xs xs must_wait = (
       inl (refl, sym (ap (λ (s : Standing). s.waits) st) ∙ waits),
       λ g. record {
         next = u.next;
@@ -245,7 +241,8 @@ still m old new c step call p u waits same =
         one = λ begun not parts. absurd (false≢true (sym not ∙ (sym (ap (λ (s : Standing). s.waits) st) ∙ waits)));
       },
     ) in
-    subst (λ (ys : List (Stamped EntryWithCall)). Tries c step call xs ys must_wait) (sym (ap (history_in m) same)) goal
+    subst (λ (ys : List (Stamped EntryWithCall)). TriesCall c step call xs ys must_wait) (sym (ap (history_in m) same))
+    goal
 
 -- it waits from now on
 begins : (m : ℕ) (old new : PortValue) (c step : ℕ) (call : PlainCall)
@@ -253,12 +250,12 @@ begins : (m : ℕ) (old new : PortValue) (c step : ℕ) (call : PlainCall)
     → IsReady old c step call
     → IsUnderWay c step call (generation_of (history_in m old)) (history_in m old)
     → Appends (with_call old c step call) new old.flip (caller_entry old c waited)
-    → Tries c step call (history_in m old) (history_in m new) must_wait
+    → TriesCall c step call (history_in m old) (history_in m new) must_wait
 begins m old new c step call p r u h =
     let flip = old.flip in
     let x = entry_of m old c step call flip waited in
     let st = stands m old c step call flip waited in
-    let goal : Tries c step call (history_in m old) (history_in m old ++ x ∷ []) must_wait = (
+    let goal : TriesCall c step call (history_in m old) (history_in m old ++ x ∷ []) must_wait = (
       inr (record {
         entry = x;
         added = refl;
@@ -272,7 +269,7 @@ begins m old new c step call p r u h =
         one = λ begun not parts. absurd (false≢true (sym not ∙ ap (λ (k : Standing). k.waits) st));
       },
     ) in
-    subst (λ (xs : List (Stamped EntryWithCall)). Tries c step call (history_in m old) xs must_wait)
+    subst (λ (xs : List (Stamped EntryWithCall)). TriesCall c step call (history_in m old) xs must_wait)
     (sym (ap (history_in m) h.appended ∙ adds_to m old c step call flip waited p)) goal
 
 waiting : (m : ℕ) (old new : PortValue) (c step : ℕ) (call : PlainCall)
@@ -283,7 +280,7 @@ waiting : (m : ℕ) (old new : PortValue) (c step : ℕ) (call : PlainCall)
     → is_some (caller_at old.terminal c).waits ≡ b
     → MatchBool b ((new ≡ old) × (quiet old.counts old.terminal ≡ false))
     (Appends (with_call old c step call) new old.flip (caller_entry old c waited))
-    → Tries c step call (history_in m old) (history_in m new) must_wait
+    → TriesCall c step call (history_in m old) (history_in m new) must_wait
 waiting m old new c step call p r u true e h = still m old new c step call p u e h.0
 waiting m old new c step call p r u false e h = begins m old new c step call p r u h
 
@@ -292,7 +289,7 @@ pub tries : (m : ℕ) (old new : PortValue) (c step : ℕ) (call : PlainCall) (x
     → IsReady old c step call
     → IsUnderWay c step call (generation_of (history_in m old)) (history_in m old)
     → Attempts old new c step call x
-    → Tries c step call (history_in m old) (history_in m new) x
+    → TriesCall c step call (history_in m old) (history_in m new) x
 tries m old new c step call (done_by a) p r u h = done m old new c step call a p r u h
 tries m old new c step call took_part p r u h = took m old new c step call p r u h
 tries m old new c step call must_wait p r u h =
@@ -309,32 +306,6 @@ answer_named m old new c step call flip event h ring capacity =
     ap (name_in m) h.appended
     ∙ (λ i. record { counts = old.counts; limit = old.limit; callers = m; ring = ring i; capacity = capacity i })
 
-drops_named : (t : Terminal) (b : Bool) (f g : TakerState Flagged) (dropped : List Flagged)
-    → MatchBool b (DropsShown t f g dropped) ((dropped ≡ []) × (g ≡ f))
-    → (g.ring ≡ f.ring) × (g.capacity ≡ f.capacity)
-drops_named t true f g dropped h = (h.takes_out.ring, h.takes_out.capacity)
-drops_named t false f g dropped h =
-    (ap (λ (x : TakerState Flagged). x.ring) h.1, ap (λ (x : TakerState Flagged). x.capacity) h.1)
-
-waits_named : (m : ℕ) (old new : PortValue) (c step : ℕ) (call : PlainCall) (b : Bool)
-    → MatchBool b ((new ≡ old) × (quiet old.counts old.terminal ≡ false))
-    (Appends (with_call old c step call) new old.flip (caller_entry old c waited))
-    → name_in m new ≡ name_in m old
-waits_named m old new c step call true h = ap (name_in m) h.0
-waits_named m old new c step call false h = answer_named m old new c step call old.flip waited h refl refl
-
-pub tries_name : (m : ℕ) (old new : PortValue) (c step : ℕ) (call : PlainCall) (x : PlainTried)
-    → Attempts old new c step call x
-    → name_in m new ≡ name_in m old
-tries_name m old new c step call (done_by a) h =
-    let same = drops_named old.terminal (drops_of (outcome old.terminal (caller_at old.terminal c) call))
-    old.flip new.flip h.dropped h.drops in
-    answer_named m old new c step call new.flip (answered a h.dropped) h.appends same.0 same.1
-tries_name m old new c step call took_part h =
-    answer_named m old new c step call old.flip (parted h.count) h.appends refl refl
-tries_name m old new c step call must_wait h =
-    waits_named m old new c step call (is_some (caller_at old.terminal c).waits) h.waits
-
 -- the generation, as the history tells it
 pub raises_of : (m : ℕ) (changes : Bool) (old new : PortValue)
     → IsPort old
@@ -350,10 +321,6 @@ raises_of m changes old new p q h =
 pub denied_same : (m : ℕ) (d : Denied) (old new : PortValue) → Denies d old new → history_in m new ≡ history_in m old
 denied_same m Full old new h = ap (history_in m) h.1
 denied_same m NoMemory old new h = ap (history_in m) h.1
-
-pub denied_name : (m : ℕ) (d : Denied) (old new : PortValue) → Denies d old new → name_in m new ≡ name_in m old
-denied_name m Full old new h = ap (name_in m) h.1
-denied_name m NoMemory old new h = ap (name_in m) h.1
 
 pub denied_full : (m : ℕ) (d : Denied) (old new : PortValue)
     → Denies d old new

@@ -1,9 +1,8 @@
 -- A call from turn to turn, and from its first to its last.
-use Rattle.std.proofs.Common.{◌≡◌, ◌⊎◌, inl, inr, ℕ, ◌+◌, ◌<◌, ◌≤◌, List, [], ◌∷◌, ◌++◌, Bool, true, false}
+use Rattle.std.proofs.Common.{◌≡◌, inl, inr, ℕ, ◌+◌, ◌<◌, ◌≤◌, List, [], ◌∷◌, ◌++◌, Bool, true, false}
 use Rattle.std.proofs.Common.{MatchBool, refl, sym, ◌∙◌, ap, subst, arith, append_assoc, append-nil}
 use Rattle.std.proofs.lemmas.Bool.{false≢true}
-use Rattle.tty_calls.specs.Plain.{PlainCall, PlainAnswer, PlainEvent, changes}
-use Rattle.tty_terminal.specs.Standing.{Standing}
+use Rattle.tty_calls.specs.Plain.{PlainCall, PlainAnswer, PlainEvent}
 use Rattle.port_core.specs.Attempts.{must_wait}
 use Rattle.port_cell.specs.declared.kept.Stamped.{Stamped}
 use Rattle.port_cell.specs.Entries.{generation_of, entries_by, Each, Begins, Keeps}
@@ -13,12 +12,12 @@ use Rattle.port_cell.specs.Views.{bit_of}
 use Rattle.port_cell.specs.Seats.{KeepsTurn}
 use Rattle.port_cell.proofs.Histories.{generation_of-push}
 use Rattle.tty_port.specs.Inside.{EntryWithCall}
-use Rattle.tty_port.specs.Seen.{standing_at, IsBetween}
-use Rattle.tty_port.specs.Adding.{IsOf, IsAnswerOf, IsPartOf, IsWaitOf, IsUnderWay}
-use Rattle.tty_port.specs.Calls.{PortSeat, is_wait, waits_in, FirstHas, KeepGeneration}
-use Rattle.tty_port.specs.Calls.{IsPause, ArePauses, IsAnswered, Answers, Pauses}
+use Rattle.tty_port.specs.Seen.{IsBetweenCalls}
+use Rattle.tty_port.specs.Adding.{IsAnswerOf, IsUnderWay}
+use Rattle.tty_port.specs.Calls.{PortSeat, is_wait, waits_in, KeepGeneration}
+use Rattle.tty_port.specs.Calls.{IsPause, ArePauses, IsAnswered, Pauses}
 use Rattle.tty_port.specs.Lines.{MakesOne, MakesNone}
-use Rattle.tty_port.specs.Going.{IsMadeIn, Turns, TakesPart, Waits, StepsOn, LastHas, IsGoing, Changes}
+use Rattle.tty_port.specs.Going.{IsMadeIn, Turns, StepsOn, LastHas, IsGoing, Changes}
 
 -- ---- lists of parts and waits
 
@@ -235,7 +234,7 @@ goes_on c step call old mid new h (inr (inr made, stepped), u) steps installs =
 pub answers_going : (c step : ℕ) (call : PlainCall) (a : PlainAnswer) (old mid new : PortSeat)
     → IsGoing c step call (generation_in (last_word mid)) old mid
     → MakesOne (IsMadeIn (generation_in (last_word new)) (IsAnswerOf c step call a)) mid new
-    → IsBetween c (step + 1) (list_seen new)
+    → IsBetweenCalls c (step + 1) (list_seen new)
     → generation_in (last_word new) ≡ generation_in (last_word mid)
     → generation_of (list_seen new) ≡ generation_in (last_word new)
     → step_count mid ≤ step_count new
@@ -327,7 +326,7 @@ answered_between c step call a s old new t k l word first last h =
       are_pauses = h.are_pauses;
       is_answer = h.is_answer;
       one = h.one;
-      next = subst (IsBetween c (step + 1)) (sym l.list) h.next;
+      next = subst (IsBetweenCalls c (step + 1)) (sym l.list) h.next;
       held = h.held ∙ sym word;
       renewed = omega arith;
       installed = omega arith;

@@ -1,6 +1,6 @@
 -- What a turn of a call comes to, as the seat knows it.
-use Rattle.std.proofs.Common.{◌≡◌, ◌⊎◌, inl, inr, ℕ, ◌+◌, ◌<◌, List, [], ◌∷◌, ◌++◌, Bool, true, false}
-use Rattle.std.proofs.Common.{not, ◌==◌, if◌then◌else◌, ne_eqb, arith, refl, sym, ◌∙◌, ap, subst}
+use Rattle.std.proofs.Common.{◌≡◌, ◌⊎◌, inl, inr, ℕ, ◌+◌, List, Bool, true, false}
+use Rattle.std.proofs.Common.{not, ◌==◌, if◌then◌else◌, ne_eqb, arith, sym, ◌∙◌, ap, subst}
 use Rattle.std.proofs.lemmas.Bool.{false≢true, eq-eqb}
 use Rattle.tty_calls.specs.Plain.{PlainCall}
 use Rattle.tty_terminal.specs.Standing.{Standing}
@@ -12,9 +12,9 @@ use Rattle.port_cell.specs.Entries.{generation_of, Keeps}
 use Rattle.port_cell.specs.Views.{Knows}
 use Rattle.port_cell.specs.Knowledge.{number_of, list_seen}
 use Rattle.tty_port.specs.Inside.{EntryWithCall}
-use Rattle.tty_port.specs.Seen.{standing_at, IsBetween}
+use Rattle.tty_port.specs.Seen.{standing_at, IsBetweenCalls}
 use Rattle.tty_port.specs.Placed.{ArePlaced}
-use Rattle.tty_port.specs.Adding.{Adds, IsAnswerOf, IsPartOf, IsWaitOf, IsUnderWay, Rests, Tries}
+use Rattle.tty_port.specs.Adding.{Adds, IsAnswerOf, IsPartOf, IsWaitOf, IsUnderWay, Rests, TriesCall}
 use Rattle.tty_port.specs.Calls.{PortSeat}
 use Rattle.tty_port.specs.Lines.{MakesOne}
 use Rattle.tty_port.specs.Going.{IsMadeIn, Turns}
@@ -29,7 +29,7 @@ alone u g k e h = subst (Knows k) e h
 
 -- a call that has not begun may go on in any generation
 pub not_begun : (c step : ℕ) (call : PlainCall) (generation : ℕ) (xs : List (Stamped EntryWithCall))
-    → IsBetween c step xs
+    → IsBetweenCalls c step xs
     → IsUnderWay c step call generation xs
 not_begun c step call generation xs h =
     record {
@@ -75,11 +75,11 @@ pub turns : (m n c step : ℕ) (call : PlainCall) (generation : ℕ) (old new : 
     → IsTurn m n c generation old new before after
     → IsUnderWay c step call generation (list_seen old)
     → (x : PlainTried)
-    → Tries c step call before after x
+    → TriesCall c step call before after x
     → Turns c step call generation old new x
 turns m n c step call generation old new before after t u (done_by a) h = (
   makes m n c generation old new before after t (IsAnswerOf c step call a) (λ x is. is.1.seat) h.0,
-  subst (IsBetween c (step + 1)) (sym t.seen) h.1,
+  subst (IsBetweenCalls c (step + 1)) (sym t.seen) h.1,
 )
 turns m n c step call generation old new before after t u took_part h = (
   makes m n c generation old new before after t (IsPartOf c step call) (λ x is. is.1.seat) h.0,

@@ -1,25 +1,26 @@
 -- What the turns of line, clock, callers and flusher add to a history.
-use Rattle.std.proofs.Common.{◌≡◌, ◌⊎◌, inl, inr, ℕ, ◌+◌, ◌<◌, ◌≤◌, zero, suc, List, [], ◌∷◌, ◌++◌, Bool, true}
+use Rattle.std.proofs.Common.{◌≡◌, inl, inr, ℕ, ◌+◌, ◌<◌, ◌≤◌, zero, suc, List, [], ◌∷◌, ◌++◌, Bool, true}
 use Rattle.std.proofs.Common.{false, IsTrue, not, ◌&&◌, ◌||◌, ◌==◌, ◌-◌, min, MatchBool, if◌then◌else◌, Option, None}
-use Rattle.std.proofs.Common.{Some, length, All, sum, refl, sym, ◌∙◌, ap, subst, arith, append-nil, length-append}
+use Rattle.std.proofs.Common.{Some, length, sum, refl, sym, ◌∙◌, ap, subst, arith, append-nil, length-append}
 use Rattle.std.proofs.lemmas.Bool.{and_parts, or_cases, eqb-true, eq-eqb, false≢true}
+use Rattle.tty_base.specs.Sizes.{PIECE}
 use Rattle.tty_base.specs.declared.characters.Flagged.{Flagged}
 use Rattle.word_ring.specs.Ends.{TakerState, PutterState}
 use Rattle.tty_calls.specs.declared.journals.Who.{Who}
-use Rattle.tty_calls.specs.declared.journals.Who.TheVariants.{Caller, Flusher, Line, Clock, Session}
-use Rattle.tty_calls.specs.Plain.{PlainCall, PlainEvent, flushed, ticked}
+use Rattle.tty_calls.specs.declared.journals.Who.TheVariants.{Caller, Line, Clock}
+use Rattle.tty_calls.specs.Plain.{PlainEvent, flushed, ticked}
 use Rattle.tty_calls.specs.Plain.{line_ended, clock_ended, caller_ended, PlainEntry}
 use Rattle.tty_terminal.specs.declared.callers.Piece.{Piece}
 use Rattle.tty_terminal.specs.Terminals.{Terminal, opening, caller_at, has_begun, live_count}
 use Rattle.tty_terminal.specs.Receiving.{accepts}
-use Rattle.tty_terminal.specs.Steps.{follows, nothing_to_flush, Allowed, after}
-use Rattle.tty_terminal.specs.Runs.{RunHas, is_of_call, is_flush, chars_of}
-use Rattle.tty_terminal.specs.Standing.{Standing, standing_of}
-use Rattle.tty_terminal.specs.Marks.{Marks, marks_of}
+use Rattle.tty_terminal.specs.Steps.{follows, after}
+use Rattle.tty_terminal.specs.Runs.{RunHas, chars_of}
+use Rattle.tty_terminal.specs.Standing.{Standing}
+use Rattle.tty_terminal.specs.Marks.{Marks}
 use Rattle.tty_terminal.proofs.StepLaws.{runs_of, taken_after, sent_after}
 use Rattle.tty_terminal.proofs.BeginLaws.{step_generation}
 use Rattle.port_core.specs.Ports.{PortValue, IsPort, call_in, with_entry, Appends}
-use Rattle.port_core.specs.Ports.{IsOpen, is_stuck, phase_entry, end_entry, flush_entry}
+use Rattle.port_core.specs.Ports.{is_stuck, phase_entry, end_entry, flush_entry}
 use Rattle.port_core.specs.Flips.{MeetsTaker}
 use Rattle.port_core.specs.Phases as phases
 use Rattle.port_core.specs.Flushes.{IsPieceOf, Takes, LooksAtNone, TakesNone}
@@ -29,10 +30,10 @@ use Rattle.port_cell.specs.Entries.{generation_of}
 use Rattle.port_cell.proofs.Histories.{generation_of-push}
 use Rattle.tty_port.specs.Inside.{Name, EntryWithCall}
 use Rattle.tty_port.specs.Histories.{stamped_entry, history_in, name_in}
-use Rattle.tty_port.specs.Seen.{entries_in, standing_at, marks_at, chars_at, terminal_at, next_run, IsBetween}
+use Rattle.tty_port.specs.Seen.{entries_in, standing_at, marks_at, chars_at, terminal_at}
 use Rattle.tty_port.specs.Adding.{Adds, IsEntry}
-use Rattle.tty_port.specs.Flushing.{IsPiece, IsCaughtUp, IsWhole, GoesOnAt, HasNothingLeft, Hands}
-use Rattle.tty_port.specs.Lines.{Meets, EndsLine}
+use Rattle.tty_port.specs.Flushing.{IsPiece, IsCaughtUp, IsWholePiece, GoesOnAt, HasNothingLeft, FlushesPiece}
+use Rattle.tty_port.specs.Lines.{MeetsFlip, EndsLine}
 use Rattle.tty_port.proofs.Histories.{history_entries, history_length, history_adds, port_generation, port_terminal}
 use Rattle.tty_port.proofs.Histories.{port_stands, port_marks, marks_append, entries_append, none_begun}
 use Rattle.tty_port.proofs.Keeping.{run_append}
@@ -111,11 +112,6 @@ pub clock_ends_same : (m : ℕ) (old new : PortValue)
     → generation_of (history_in m new) ≡ generation_of (history_in m old)
 clock_ends_same m old new p h = appends_same m old new old.flip (phase_entry old Clock clock_ended) p h refl
 
-pub appends_name : (m : ℕ) (old new : PortValue) (e : PlainEntry)
-    → Appends old new old.flip e
-    → name_in m new ≡ name_in m old
-appends_name m old new e h = ap (name_in m) h.appended
-
 pub caller_ends : (m : ℕ) (old new : PortValue) (c : ℕ)
     → IsPort old
     → Appends old new old.flip (end_entry old c)
@@ -171,9 +167,9 @@ caller_between m c v p h = ap (λ (s : Standing). s.begun) (port_stands m v p c)
 meets : (taken : List Flagged) (flip : TakerState Flagged) (p q : PutterState Flagged)
     → flip.taken ≡ taken
     → MeetsTaker flip p q
-    → Meets taken p q
+    → MeetsFlip taken p q
 meets taken flip p q same h =
-    subst (λ (xs : List Flagged). Meets xs p q) same
+    subst (λ (xs : List Flagged). MeetsFlip xs p q) same
     (record { putter = h.putter; begins = h.begins; heads = h.heads; rise = h.rise; rises = h.rises })
 
 pub line_ends : (m : ℕ) (old new : PortValue) (p q : PutterState Flagged)
@@ -210,18 +206,11 @@ named_by m old new flip e h ring capacity =
     ap (name_in m) h.appended
     ∙ (λ i. record { counts = old.counts; limit = old.limit; callers = m; ring = ring i; capacity = capacity i })
 
-pub line_ends_name : (m : ℕ) (old new : PortValue) (p q : PutterState Flagged)
-    → phases.EndsLine old new p q
-    → name_in m new ≡ name_in m old
-line_ends_name m old new p q h =
-    named_by m old new new.flip (phase_entry old Line (line_ended (length p.sent))) h.appends
-    (ap (λ (f : TakerState Flagged). f.ring) h.flip) (ap (λ (f : TakerState Flagged). f.capacity) h.flip)
-
 -- ---- a piece of a flush run
 
 pub is_piece_of : (m : ℕ) (v : PortValue) (run part most : ℕ)
     → 1 ≤ most
-    → most ≤ 64
+    → most ≤ PIECE
     → IsPort v
     → GoesOnAt run part (generation_of (history_in m v)) (history_in m v)
     → IsPieceOf v run part most
@@ -313,17 +302,17 @@ pub hands : (m : ℕ) (old new : PortValue) (run part most n : ℕ)
     → IsPort new
     → length old.journal < old.limit
     → GoesOnAt run part (generation_of (history_in m old)) (history_in m old)
-    → most ≤ 64
-    → 64 ≤ most
+    → most ≤ PIECE
+    → PIECE ≤ most
     → Takes old new run part most n
-    → Hands (name_in m old) run part (history_in m old) (history_in m new) (outcome.Took n)
+    → FlushesPiece (name_in m old) run part (history_in m old) (history_in m new) (outcome.Took n)
 hands m old new run part most n p q few goes small large h =
     let e = flush_entry old run part h.chars in
     let x = last_of m old e in
     let xs = history_in m old in
     let at : generation_of xs ≡ old.terminal.generation = port_generation m old p in
     let P : Stamped EntryWithCall → Type 0 = λ y.
-    IsPiece m run part (generation_of xs) y × (n ≡ length (chars_at (y ∷ []))) × IsWhole (name_in m old) xs y in
+    IsPiece m run part (generation_of xs) y × (n ≡ length (chars_at (y ∷ []))) × IsWholePiece (name_in m old) xs y in
     let added = appends m old new new.flip e p h.appends in
     let size_is : n ≡ length (chars_at (x ∷ [])) = sym h.count ∙ sym (ap length (append-nil h.chars)) in
     let led : terminal_at (name_in m old) (xs ++ x ∷ []) ≡ new.terminal =
@@ -389,7 +378,7 @@ none_same m old new false h = (ap (history_in m) h.looked, ap (name_in m) h.look
 pub hands_none : (m : ℕ) (old new : PortValue) (run part : ℕ)
     → IsPort old
     → TakesNone old new
-    → Hands (name_in m old) run part (history_in m old) (history_in m new) outcome.Nothing
+    → FlushesPiece (name_in m old) run part (history_in m old) (history_in m new) outcome.Nothing
 hands_none m old new run part p h = (
   (none_same m old new (is_stuck old.terminal) h.cause).0,
   subst HasNothingLeft (sym (port_terminal m old p)) (record { caught_up = h.caught_up; idle = h.idle }),

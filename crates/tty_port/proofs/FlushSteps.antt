@@ -1,8 +1,9 @@
 -- A flush run from turn to turn.
-use Rattle.std.proofs.Common.{◌≡◌, ℕ, ◌+◌, ◌*◌, ◌<◌, ◌≤◌, List, [], ◌∷◌, ◌++◌, Bool, true, false, IsTrue}
+use Rattle.std.proofs.Common.{◌≡◌, ℕ, ◌+◌, ◌<◌, ◌≤◌, List, [], ◌∷◌, ◌++◌, Bool, true, false, IsTrue}
 use Rattle.std.proofs.Common.{if◌then◌else◌, ne_eqb, ◌==◌, ◌&&◌, ◌||◌, Option, None, Some, length, refl}
 use Rattle.std.proofs.Common.{sym, ◌∙◌, ap, subst, arith, append_assoc, append-nil, length-append}
 use Rattle.std.proofs.lemmas.Bool.{eq-eqb}
+use Rattle.tty_base.specs.Sizes.{MOST_ENTRIES, PIECE}
 use Rattle.tty_base.specs.declared.characters.Flagged.{Flagged}
 use Rattle.tty_calls.specs.Plain.{PlainEntry, chars_in}
 use Rattle.tty_terminal.specs.declared.callers.Piece.{Piece}
@@ -11,16 +12,16 @@ use Rattle.tty_terminal.specs.Runs.{chars_of}
 use Rattle.port_core.specs.declared.ports.flushing.Flushed.{Flushed}
 use Rattle.port_core.specs.declared.ports.flushing.Flushed.TheVariants as outcome
 use Rattle.port_cell.specs.declared.kept.Stamped.{Stamped}
-use Rattle.port_cell.specs.Entries.{generation_of, Begins, Keeps}
+use Rattle.port_cell.specs.Entries.{Begins, Keeps}
 use Rattle.port_cell.specs.Word.{generation_in, changing_in}
-use Rattle.port_cell.specs.Knowledge.{number_of, list_seen, own_entries, last_word, step_count, install_count}
+use Rattle.port_cell.specs.Knowledge.{list_seen, own_entries, last_word, step_count, install_count}
 use Rattle.tty_port.specs.Inside.{Name, EntryWithCall}
 use Rattle.tty_port.specs.Seen.{entries_in, marks_at, chars_at, next_run, run_after, terminal_at}
 use Rattle.tty_port.specs.Placed.{ArePlaced}
 use Rattle.tty_port.specs.Adding.{Adds}
 use Rattle.tty_port.specs.Calls.{PortSeat}
-use Rattle.tty_port.specs.Flushing.{IsPiece, ArePieces, IsWhole, AreWhole, HasNothingLeft}
-use Rattle.tty_port.specs.Flushing.{run_past, FlushesRun, GoesOnAt, Hands}
+use Rattle.tty_port.specs.Flushing.{IsPiece, ArePieces, IsWholePiece, AreWhole, HasNothingLeft}
+use Rattle.tty_port.specs.Flushing.{run_past, FlushesRun, GoesOnAt, FlushesPiece}
 use Rattle.tty_port.specs.Lines.{MakesOne, MakesNone}
 use Rattle.tty_port.specs.Going.{IsFlushing, FlushTurns}
 use Rattle.tty_port.proofs.Histories.{entries_append}
@@ -41,20 +42,21 @@ pub flush_turns : (name : Name) (n run part generation : ℕ) (old new : PortSea
     (before after : List (Stamped EntryWithCall))
     → IsTurn name.callers n name.callers generation old new before after
     → (x : Flushed)
-    → Hands name run part before after x
+    → FlushesPiece name run part before after x
     → FlushTurns name run part generation old new x
 flush_turns name n run part generation old new before after t (outcome.Took k) h =
     let P : List (Stamped EntryWithCall) → Stamped EntryWithCall → Type 0 = λ xs x.
-    IsPiece name.callers run part generation x × (k ≡ length (chars_at (x ∷ []))) × IsWhole name xs x in
+    IsPiece name.callers run part generation x × (k ≡ length (chars_at (x ∷ []))) × IsWholePiece name xs x in
     let added : Adds (P before) before after =
     subst (λ (g : ℕ). Adds
-    (λ x. IsPiece name.callers run part g x × (k ≡ length (chars_at (x ∷ []))) × IsWhole name before x) before after)
+    (λ x. IsPiece name.callers run part g x × (k ≡ length (chars_at (x ∷ []))) × IsWholePiece name before x) before
+    after)
     t.at h.0 in (
       makes_one P name.callers old new before after (λ x is. is.0.seat) t.was t.now t.keeps added t.seen,
       subst (GoesOnAt run (part + 1) generation) (sym t.seen)
           (subst (λ (g : ℕ). GoesOnAt run (part + 1) g after) t.at h.1),
       ap next_run t.seen ∙ h.2,
-      subst (λ (xs : List (Stamped EntryWithCall)). length xs ≤ 4194304) (sym t.seen) h.3,
+      subst (λ (xs : List (Stamped EntryWithCall)). length xs ≤ MOST_ENTRIES) (sym t.seen) h.3,
     )
 flush_turns name n run part generation old new before after t outcome.Nothing h = (
   makes_none name.callers old new before after t.was t.now t.keeps h.0 t.seen,
@@ -91,7 +93,7 @@ pieces_push m run generation part (y ∷ ys) x k e h p =
 piece_chars : (m run part generation k : ℕ) (x : Stamped EntryWithCall)
     → IsPiece m run part generation x
     → k ≡ length (chars_at (x ∷ []))
-    → k ≤ 64
+    → k ≤ PIECE
 piece_chars m run part generation k x p e =
     let one : length (chars_at (x ∷ [])) ≡ length p.chars =
     ap length (append-nil (chars_in x.what.entry.event)) ∙ ap (λ ev. length (chars_in ev)) p.happened in
@@ -123,7 +125,7 @@ whole_push : (name : Name) (all made : List (Stamped EntryWithCall)) (before : L
     (x : Stamped EntryWithCall)
     → AreWhole name all made
     → Begins (before ++ x ∷ []) all
-    → IsWhole name before x
+    → IsWholePiece name before x
     → AreWhole name all (made ++ x ∷ [])
 whole_push name all [] before x w b h = ((before, b, h), tt)
 whole_push name all (y ∷ made) before x w b h = (w.0, whole_push name all made before x w.1 b h)
@@ -228,12 +230,6 @@ longer P mid new part h le =
     let found = ap length h.found.1 ∙ length-append (list_seen mid) h.found.0 in
     let size = ap length h.added ∙ length-append h.before (h.entry ∷ []) in
     omega arith
-
-pub longer_none : (mid new : PortSeat) (part : ℕ)
-    → MakesNone mid new
-    → part ≤ length (list_seen mid)
-    → part ≤ length (list_seen new)
-longer_none mid new part h le = let found = ap length h.found.1 ∙ length-append (list_seen mid) h.found.0 in omega arith
 
 -- a run under a reference that was taken before and is given back after it
 pub flushes_run : (name : Name) (run part n : ℕ) (s old new t : PortSeat)

@@ -1,35 +1,35 @@
 -- Histories of journals: what they tell, and how they grow by an entry.
-use Rattle.std.proofs.Common.{◌≡◌, ℕ, ◌+◌, ◌<◌, ◌≤◌, List, [], ◌∷◌, ◌++◌, Bool, true, false}
-use Rattle.std.proofs.Common.{IsTrue, ◌&&◌, ◌||◌, ◌==◌, ◌⊎◌, inl, inr, if◌then◌else◌, Option}
+use Rattle.std.proofs.Common.{◌≡◌, ℕ, ◌+◌, ◌≤◌, List, [], ◌∷◌, ◌++◌, Bool, true, false}
+use Rattle.std.proofs.Common.{IsTrue, ◌&&◌, ◌==◌, inl, inr, if◌then◌else◌, Option}
 use Rattle.std.proofs.Common.{None, Some, length, map, sum, refl, sym, ◌∙◌, ap, subst, arith}
 use Rattle.std.proofs.lemmas.Bool.{and_parts, or_cases, eqb-true, false≢true}
 use Rattle.std.proofs.lemmas.List.{map-append, length-map}
+use Rattle.tty_base.specs.Sizes.{MOST_ENTRIES}
 use Rattle.tty_calls.specs.declared.journals.Who.{Who}
 use Rattle.tty_calls.specs.declared.journals.Who.TheVariants.{Caller, Flusher, Line, Clock, Session}
 use Rattle.tty_calls.specs.Plain.{PlainCall, PlainEvent, answered, parted, waited, flushed, ticked, line_ended}
-use Rattle.tty_calls.specs.Plain.{clock_ended, caller_ended, phase_ended, hung_up, PlainEntry, is_caller}
+use Rattle.tty_calls.specs.Plain.{clock_ended, caller_ended, phase_ended, hung_up, PlainEntry}
 use Rattle.tty_terminal.specs.Terminals.{Terminal, opening, caller_at}
 use Rattle.tty_terminal.specs.declared.callers.Piece.{Piece}
-use Rattle.tty_terminal.specs.Steps.{follows, IsAllowed, Allowed, after, after_event}
-use Rattle.tty_terminal.specs.Runs.{Leads, IsRun, Grows, AgreesAt, AgreesOn, is_of_call, is_flush, RunHas}
+use Rattle.tty_terminal.specs.Steps.{follows, IsAllowed, after, after_event}
+use Rattle.tty_terminal.specs.Runs.{Leads, IsRun, KnowsMore, AgreesAt, AgreesOn, is_of_call, is_flush, RunHas}
 use Rattle.tty_terminal.specs.Makers.{IsOfCall, IsByItsMaker}
 use Rattle.tty_terminal.specs.Standing.{Standing, standing_of, standing_after}
-use Rattle.tty_terminal.specs.Standing.{standing_after_own, standing_in, at_first}
+use Rattle.tty_terminal.specs.Standing.{standing_in, at_first}
 use Rattle.tty_terminal.specs.Marks.{Marks, marks_of, marks_after, marks_in, no_marks}
 use Rattle.tty_terminal.proofs.StepLaws.{runs_of, step_does}
 use Rattle.tty_terminal.proofs.MarkLaws.{run_marks, step_marks, step_maker}
 use Rattle.tty_terminal.proofs.StandingLaws.{run_stands}
 use Rattle.tty_terminal.proofs.OneRun.{leads_runs}
-use Rattle.tty_terminal.proofs.CallerLists.{all_idle}
 use Rattle.tty_terminal.proofs.Runs.{run_callers}
 use Rattle.port_core.specs.Ports.{PortValue, IsPort, call_in}
 use Rattle.port_cell.specs.declared.kept.Stamped.{Stamped}
 use Rattle.port_cell.specs.Entries.{generation_of}
-use Rattle.tty_port.specs.Inside.{Name, EntryWithCall}
-use Rattle.tty_port.specs.Histories.{seat_of, call_by, call_for, stamped_entry}
+use Rattle.tty_port.specs.Inside.{EntryWithCall}
+use Rattle.tty_port.specs.Histories.{seat_of, call_by, stamped_entry}
 use Rattle.tty_port.specs.Histories.{generation_next, history, history_in, name_in}
 use Rattle.tty_port.specs.Seen.{entries_in, standing_at, marks_at, next_run, led_to, terminal_at}
-use Rattle.tty_port.specs.Placed.{IsPlaced, ArePlaced, HasCall, HaveCalls, IsHistoryOf}
+use Rattle.tty_port.specs.Placed.{ArePlaced, HaveCalls, IsHistoryOf}
 
 -- ---- one entry more
 
@@ -72,7 +72,7 @@ port_generation m v p =
 -- ---- more calls are kept
 
 call_grown : (f g : ℕ → ℕ → Option PlainCall) (n : ℕ) (who : Who) (step : ℕ)
-    → Grows f g
+    → KnowsMore f g
     → IsOfCall f n who step
     → call_by g who step ≡ call_by f who step
 call_grown f g n who step grows h =
@@ -80,7 +80,7 @@ call_grown f g n who step grows h =
     (grows h.caller step h.call h.called ∙ sym h.called)
 
 event_grown : (f g : ℕ → ℕ → Option PlainCall) (n : ℕ) (who : Who) (step : ℕ) (event : PlainEvent)
-    → Grows f g
+    → KnowsMore f g
     → IsByItsMaker f n who step event
     → (if is_of_call event then call_by g who step else None) ≡ (if is_of_call event then call_by f who step else None)
 event_grown f g n who step (answered a dropped) grows h = call_grown f g n who step grows h
@@ -96,7 +96,7 @@ event_grown f g n who step (hung_up dropped) grows h = refl
 
 history_grown : (m : ℕ) (f g : ℕ → ℕ → Option PlainCall) (counts : List ℕ) (t : Terminal) (es : List PlainEntry)
     (u : Terminal) (now : ℕ)
-    → Grows f g
+    → KnowsMore f g
     → Leads f counts t es u
     → history m g es now ≡ history m f es now
 history_grown m f g counts t [] u now grows h = refl
@@ -111,7 +111,7 @@ history_grown m f g counts t (e ∷ es) u now grows h =
 -- the history of a port with one entry more
 pub history_adds : (m : ℕ) (old new : PortValue) (e : PlainEntry)
     → IsPort old
-    → Grows (call_in old.kept) (call_in new.kept)
+    → KnowsMore (call_in old.kept) (call_in new.kept)
     → e.generation ≡ old.terminal.generation
     → new.journal ≡ old.journal ++ e ∷ []
     → history_in m new ≡ history_in m old ++ stamped_entry m (call_in new.kept) e new.terminal.generation ∷ []
@@ -356,7 +356,7 @@ runs_few f counts t (e ∷ es) u h =
     omega arith
 
 -- each flush run has an entry
-pub port_runs : (m : ℕ) (v : PortValue) → IsPort v → next_run (history_in m v) ≤ 4194304
+pub port_runs : (m : ℕ) (v : PortValue) → IsPort v → next_run (history_in m v) ≤ MOST_ENTRIES
 port_runs m v p =
     let few = runs_few (call_in v.kept) v.counts (opening (sum v.counts) v.flip.capacity) v.journal v.terminal p.run in
     let same : next_run (history_in m v) ≡ runs_of v.terminal.flushed =

@@ -1,8 +1,8 @@
 -- What the entries of others leave as it is.
-use Rattle.std.proofs.Common.{◌≡◌, ◌≢◌, ◌⊎◌, inl, inr, ℕ, ◌+◌, ◌<◌, ◌≤◌, List, [], ◌∷◌, ◌++◌}
-use Rattle.std.proofs.Common.{Bool, true, false, IsTrue, ◌&&◌, ◌==◌, if◌then◌else◌, Option}
-use Rattle.std.proofs.Common.{None, Some, length, refl, sym, ◌∙◌, ap, subst, arith, ne_eqb}
-use Rattle.std.proofs.lemmas.Bool.{and_parts, eqb-true, false≢true}
+use Rattle.std.proofs.Common.{◌≡◌, ◌≢◌, inl, inr, ℕ, ◌+◌, ◌<◌, List, [], ◌∷◌, ◌++◌}
+use Rattle.std.proofs.Common.{Bool, true, false, IsTrue, ◌==◌, if◌then◌else◌, Option}
+use Rattle.std.proofs.Common.{refl, sym, ◌∙◌, ap, subst, ne_eqb}
+use Rattle.std.proofs.lemmas.Bool.{and_parts, false≢true}
 use Rattle.tty_calls.specs.declared.journals.Who.{Who}
 use Rattle.tty_calls.specs.declared.journals.Who.TheVariants.{Caller, Flusher, Line, Clock, Session}
 use Rattle.tty_calls.specs.Plain.{PlainCall, PlainEvent, answered, parted, waited, flushed, ticked, line_ended}
@@ -17,9 +17,9 @@ use Rattle.port_cell.specs.declared.kept.Stamped.{Stamped}
 use Rattle.port_cell.specs.Entries.{Each, Keeps}
 use Rattle.tty_port.specs.Inside.{EntryWithCall}
 use Rattle.tty_port.specs.Histories.{seat_of}
-use Rattle.tty_port.specs.Seen.{entries_in, standing_at, marks_at, IsBetween}
-use Rattle.tty_port.specs.Placed.{IsPlaced, ArePlaced}
-use Rattle.tty_port.specs.Adding.{IsOfStep, IsTold, IsUnderWay}
+use Rattle.tty_port.specs.Seen.{entries_in, standing_at, marks_at, IsBetweenCalls}
+use Rattle.tty_port.specs.Placed.{ArePlaced}
+use Rattle.tty_port.specs.Adding.{IsToldCall, IsUnderWay}
 use Rattle.tty_port.specs.Flushing.{GoesOnAt}
 use Rattle.tty_port.proofs.Histories.{entries_append, standing_append, marks_append}
 
@@ -82,23 +82,23 @@ standing_kept m n c xs ys placed h over =
     ∙ others_leave m n c h.0 (standing_at c xs) (placed_right m n xs h.0 (subst (ArePlaced m n) h.1 placed)) h.2 over
 
 pub told_more : (c step : ℕ) (call : PlainCall) (xs ys : List (Stamped EntryWithCall))
-    → IsTold c step call xs
-    → IsTold c step call (xs ++ ys)
+    → IsToldCall c step call xs
+    → IsToldCall c step call (xs ++ ys)
 told_more c step call [] ys h = absurd h
 told_more c step call (x ∷ xs) ys (inl h) = inl h
 told_more c step call (x ∷ xs) ys (inr h) = inr (told_more c step call xs ys h)
 
 pub told_kept : (c k step : ℕ) (call : PlainCall) (xs ys : List (Stamped EntryWithCall))
     → Keeps k xs ys
-    → IsTold c step call xs
-    → IsTold c step call ys
-told_kept c k step call xs ys h told = subst (IsTold c step call) (sym h.1) (told_more c step call xs h.0 told)
+    → IsToldCall c step call xs
+    → IsToldCall c step call ys
+told_kept c k step call xs ys h told = subst (IsToldCall c step call) (sym h.1) (told_more c step call xs h.0 told)
 
 pub between_kept : (m n c step : ℕ) (xs ys : List (Stamped EntryWithCall))
     → ArePlaced m n ys
     → Keeps c xs ys
-    → IsBetween c step xs
-    → IsBetween c step ys
+    → IsBetweenCalls c step xs
+    → IsBetweenCalls c step ys
 between_kept m n c step xs ys placed h b =
     let same = standing_kept m n c xs ys placed h b.not_over in
     record {

@@ -1,22 +1,20 @@
 -- What a turn adds, whether or not it is denied.
 use Rattle.std.specs.Prelude.{IfOk, IfErr, OnOk, OnErr}
-use Rattle.std.proofs.Common.{◌≡◌, ◌⊎◌, inl, inr, ℕ, ◌+◌, ◌<◌, ◌≤◌, length, List, [], ◌∷◌, ◌++◌, Bool}
-use Rattle.std.proofs.Common.{true, false, Option, Some, None, Result, Ok, Err, refl, sym, ◌∙◌, ap, subst}
-use Rattle.tty_base.specs.declared.characters.Flagged.{Flagged}
-use Rattle.tty_calls.specs.declared.answers.Denied.{Denied}
+use Rattle.std.proofs.Common.{◌≡◌, inl, inr, ℕ, ◌<◌, ◌≤◌, length, List, Bool}
+use Rattle.std.proofs.Common.{true, false, Result, Ok, Err, ap, subst}
+use Rattle.tty_base.specs.Sizes.{PIECE}
 use Rattle.tty_calls.specs.Plain.{PlainCall}
-use Rattle.port_core.specs.declared.ports.attempting.Tried.{Tried}
 use Rattle.port_core.specs.declared.ports.flushing.Flushed.{Flushed}
 use Rattle.port_core.specs.declared.ports.flushing.Flushed.TheVariants as outcome
 use Rattle.port_core.specs.Ports.{PortValue, IsPort}
 use Rattle.port_core.specs.Flushes.{Flushes}
-use Rattle.port_core.specs.Attempts.{PlainTried, done_by, took_part, must_wait, tried_of, Raises}
+use Rattle.port_core.specs.Attempts.{PlainTried, done_by, took_part, must_wait, Raises}
 use Rattle.port_cell.specs.declared.kept.Stamped.{Stamped}
 use Rattle.port_cell.specs.Entries.{generation_of, AddsBy}
 use Rattle.tty_port.specs.Inside.{Name, EntryWithCall}
 use Rattle.tty_port.specs.Histories.{history_in, name_in}
-use Rattle.tty_port.specs.Adding.{Adds, Tries}
-use Rattle.tty_port.specs.Flushing.{GoesOnAt, Hands}
+use Rattle.tty_port.specs.Adding.{TriesCall}
+use Rattle.tty_port.specs.Flushing.{GoesOnAt, FlushesPiece}
 use Rattle.tty_port.proofs.Turning.{adds_by, adds_nothing}
 use Rattle.tty_port.proofs.Entering.{hands, hands_same, hands_none, none_history}
 
@@ -31,10 +29,6 @@ each_err (Err d) P Q f h = f d h
 pub on_ok : {A E : Type 0} (r : Result A E) (P Q : Type 0) → (P → Q) → OnOk r P → OnOk r Q
 on_ok (Ok x) P Q f h = f h
 on_ok (Err d) P Q f h = tt
-
-pub on_err : {A E : Type 0} (r : Result A E) (P : E → Type 0) (Q : Type 0) → ((x : E) → P x → Q) → IfErr r P → OnErr r Q
-on_err (Ok x) P Q f h = tt
-on_err (Err d) P Q f h = f d h
 
 -- what holds where it is done, and where it is denied
 pub either_way : {A E : Type 0} (r : Result A E) (P : A → Type 0) (F : E → Type 0) (Q : Type 0)
@@ -55,7 +49,7 @@ either_on (Ok x) P F Q f g h k = f h
 either_on (Err d) P F Q f g h k = g d k
 
 pub tries_by : (c step : ℕ) (call : PlainCall) (old new : List (Stamped EntryWithCall)) (x : PlainTried)
-    → Tries c step call old new x
+    → TriesCall c step call old new x
     → AddsBy c old new
 tries_by c step call old new (done_by a) h = adds_by c _ old new (λ x is. is.1.seat) h.0
 tries_by c step call old new took_part h = adds_by c _ old new (λ x is. is.1.seat) h.0
@@ -67,7 +61,7 @@ raises_none true g h e = inl e
 raises_none false g h e = e
 
 pub hands_by : (name : Name) (run part : ℕ) (old new : List (Stamped EntryWithCall)) (x : Flushed)
-    → Hands name run part old new x
+    → FlushesPiece name run part old new x
     → AddsBy name.callers old new
 hands_by name run part old new (outcome.Took n) h = adds_by name.callers _ old new (λ x is. is.0.seat) h.0
 hands_by name run part old new outcome.Nothing h = adds_nothing name.callers old new h.0
@@ -78,10 +72,10 @@ pub flushes : (m : ℕ) (old new : PortValue) (run part most : ℕ) (x : Flushed
     → IsPort new
     → length old.journal < old.limit
     → GoesOnAt run part (generation_of (history_in m old)) (history_in m old)
-    → most ≤ 64
-    → 64 ≤ most
+    → most ≤ PIECE
+    → PIECE ≤ most
     → Flushes old new run part most x
-    → Hands (name_in m old) run part (history_in m old) (history_in m new) x
+    → FlushesPiece (name_in m old) run part (history_in m old) (history_in m new) x
 flushes m old new run part most (outcome.Took n) p q few goes small large h =
     hands m old new run part most n p q few goes small large h
 flushes m old new run part most outcome.Nothing p q few goes small large h = hands_none m old new run part p h

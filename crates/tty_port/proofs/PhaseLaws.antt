@@ -1,19 +1,19 @@
 -- What the entries of others leave as it is within one phase.
-use Rattle.std.proofs.Common.{◌≡◌, ◌≢◌, ℕ, ◌+◌, ◌≤◌, List, [], ◌∷◌, ◌++◌, Bool, true, false}
-use Rattle.std.proofs.Common.{Option, if◌then◌else◌, refl, sym, ◌∙◌, ap, subst, arith}
+use Rattle.std.proofs.Common.{◌≡◌, ◌≢◌, ℕ, ◌+◌, ◌≤◌, List, [], ◌∷◌}
+use Rattle.std.proofs.Common.{Option, refl, sym, ◌∙◌, ap, subst, arith}
 use Rattle.tty_calls.specs.declared.journals.Who.{Who}
 use Rattle.tty_calls.specs.declared.journals.Who.TheVariants.{Line, Clock, Session}
 use Rattle.tty_calls.specs.Plain.{PlainCall, PlainEvent, answered, parted, waited, flushed, ticked, line_ended}
 use Rattle.tty_calls.specs.Plain.{clock_ended, caller_ended, phase_ended, hung_up, PlainEntry, is_caller}
 use Rattle.tty_terminal.specs.Makers.{IsByItsMaker}
-use Rattle.tty_terminal.specs.Standing.{Standing, standing_after, standing_after_own, standing_after_other, standing_in}
+use Rattle.tty_terminal.specs.Standing.{Standing, standing_after_own, standing_after_other, standing_in}
 use Rattle.tty_terminal.specs.Marks.{Marks, marks_after, marks_in}
 use Rattle.port_cell.specs.declared.kept.Stamped.{Stamped}
 use Rattle.port_cell.specs.Entries.{Each, Keeps}
 use Rattle.tty_port.specs.Inside.{EntryWithCall}
 use Rattle.tty_port.specs.Histories.{seat_of}
 use Rattle.tty_port.specs.Seen.{entries_in, standing_at, marks_at}
-use Rattle.tty_port.specs.Placed.{IsPlaced, ArePlaced}
+use Rattle.tty_port.specs.Placed.{ArePlaced}
 use Rattle.tty_port.proofs.Histories.{standing_append, marks_append}
 use Rattle.tty_port.proofs.Keeping.{placed_right, not_caller, when_false, by_another}
 

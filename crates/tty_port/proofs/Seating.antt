@@ -4,7 +4,7 @@ use Rattle.std.proofs.Common.{slice_get, length, arith, is_some, refl, sym, â—Œâ
 use Rattle.port_cell.specs.declared.kept.Stamped.{Stamped}
 use Rattle.port_cell.specs.Knowledge.{number_of, list_seen}
 use Rattle.port_cell.specs.Seats.{in_hand, IsNew, AllNew, EachSeat, HasAll}
-use Rattle.tty_port.specs.Inside.{Name, EntryWithCall}
+use Rattle.tty_port.specs.Inside.{EntryWithCall}
 use Rattle.tty_port.specs.Calls.{PortSeat}
 use Rattle.tty_port.specs.Shared.{IsHere, AreHere, table_of, name_of_port}
 use Rattle.tty_port.specs.declared.shared.SharedPort.{SharedPort}

@@ -1,10 +1,9 @@
 -- What a turn adds to what a seat knows.
-use Rattle.std.proofs.Common.{◌≡◌, ◌≢◌, ◌⊎◌, inl, inr, ℕ, ◌+◌, ◌<◌, ◌≤◌, List, [], ◌∷◌, ◌++◌, false, length}
+use Rattle.std.proofs.Common.{◌≡◌, ℕ, ◌+◌, List, [], ◌∷◌, ◌++◌, length}
 use Rattle.std.proofs.Common.{refl, sym, ◌∙◌, ap, subst, arith, append-nil, length-append, Option, Some, sum}
 use Rattle.port_cell.specs.declared.kept.Stamped.{Stamped}
-use Rattle.port_cell.specs.Entries.{generation_of, entries_by, Each, Keeps, AddsBy}
-use Rattle.port_cell.specs.Knowledge.{number_of, name_of, list_seen, own_entries, is_raised, generation_installed}
-use Rattle.port_cell.specs.Views.{bit_of, raises_of}
+use Rattle.port_cell.specs.Entries.{entries_by, Keeps, AddsBy}
+use Rattle.port_cell.specs.Knowledge.{number_of, name_of, list_seen, own_entries}
 use Rattle.port_cell.proofs.OwnEntries.{entries_by_kept, entries_by_added}
 use Rattle.tty_port.specs.Inside.{Name, EntryWithCall}
 use Rattle.tty_port.specs.Histories.{history_of, name_of as port_name}
@@ -75,16 +74,6 @@ makes_none n old new before after was now keeps same seen =
 none_more : (old more : List (Stamped EntryWithCall)) → length (old ++ more) ≡ length old → old ++ more ≡ old
 none_more old [] h = append-nil old
 none_more old (x ∷ xs) h = let size = length-append old (x ∷ xs) in absurd (omega arith)
-
-pub added_none : (n : ℕ) (old new : List (Stamped EntryWithCall))
-    → AddsBy n old new
-    → length new ≡ length old
-    → new ≡ old
-added_none n old new h same = h.1 ∙ none_more old h.0 (sym (ap length h.1) ∙ same)
-
--- the installed generation, where nothing raised was stamped
-pub installed_now : (s : PortSeat) → is_raised s ≡ false → generation_installed s ≡ generation_of (list_seen s)
-installed_now s low = let bit : raises_of s.me.0 ≡ 0 = ap bit_of low in omega arith
 
 some_name : (x y : Name) (o : Option Name) → o ≡ Some x → o ≡ Some y → y ≡ x
 some_name x y o h k = cc

@@ -1,5 +1,5 @@
 -- What one turn adds to a history.
-use Rattle.std.specs.Prelude.{◌≡◌, ◌⊎◌, ℕ, ◌+◌, ◌<◌, List, [], ◌∷◌, ◌++◌, Bool, true, false, Option, None, Some, length}
+use Rattle.std.specs.Prelude.{◌≡◌, ◌⊎◌, ℕ, ◌+◌, ◌<◌, List, [], ◌∷◌, ◌++◌, true, false, None, Some, length}
 use Rattle.tty_calls.specs.declared.answers.Denied.{Denied}
 use Rattle.tty_calls.specs.declared.answers.Denied.TheVariants.{NoMemory, Full}
 use Rattle.tty_base.specs.declared.characters.Flagged.{Flagged}
@@ -11,7 +11,7 @@ use Rattle.port_core.specs.Attempts.{PlainTried, done_by, took_part, must_wait}
 use Rattle.port_cell.specs.declared.kept.Stamped.{Stamped}
 use Rattle.port_cell.specs.Entries.{generation_of}
 use Rattle.tty_port.specs.Inside.{Name, EntryWithCall}
-use Rattle.tty_port.specs.Seen.{standing_at, IsBetween}
+use Rattle.tty_port.specs.Seen.{standing_at, IsBetweenCalls}
 
 -- one entry more, made in the generation in which the history ended
 pub record Adds (P : Stamped EntryWithCall → Type 0) (old new : List (Stamped EntryWithCall)) : Type 0 where
@@ -60,9 +60,9 @@ pub record IsOfStep (c step : ℕ) (call : PlainCall) (x : Stamped EntryWithCall
   pub keeps : x.what.call ≡ Some call
 
 -- some entry tells that this is the call of the caller's step
-abbrev pub IsTold : ℕ → ℕ → PlainCall → List (Stamped EntryWithCall) → Type 0
-IsTold c step call [] = ⊥
-IsTold c step call (x ∷ xs) = IsOfStep c step call x ⊎ IsTold c step call xs
+abbrev pub IsToldCall : ℕ → ℕ → PlainCall → List (Stamped EntryWithCall) → Type 0
+IsToldCall c step call [] = ⊥
+IsToldCall c step call (x ∷ xs) = IsOfStep c step call x ⊎ IsToldCall c step call xs
 
 -- the call is the caller's next, or the one that has begun; where parts of it were taken, and it does not wait, that
 -- was in this generation
@@ -70,7 +70,7 @@ pub record IsUnderWay (c step : ℕ) (call : PlainCall) (generation : ℕ)
     (xs : List (Stamped EntryWithCall)) : Type 0 where
   pub next : (standing_at c xs).next ≡ step
   pub not_over : (standing_at c xs).over ≡ false
-  pub same : (standing_at c xs).begun ≡ true → IsTold c step call xs
+  pub same : (standing_at c xs).begun ≡ true → IsToldCall c step call xs
   pub one : (standing_at c xs).begun ≡ true
       → (standing_at c xs).waits ≡ false
       → 0 < (standing_at c xs).parts
@@ -81,11 +81,12 @@ abbrev pub Rests : ℕ → ℕ → PlainCall → List (Stamped EntryWithCall) �
 Rests c step call xs = (generation : ℕ) → IsUnderWay c step call generation xs
 
 -- what an attempt came to
-abbrev pub Tries : ℕ → ℕ → PlainCall → List (Stamped EntryWithCall) → List (Stamped EntryWithCall) → PlainTried → Type 0
-Tries c step call old new (done_by a) = Adds (IsAnswerOf c step call a) old new × IsBetween c (step + 1) new
-Tries c step call old new took_part =
+abbrev pub TriesCall : ℕ → ℕ → PlainCall → List (Stamped EntryWithCall) → List (Stamped EntryWithCall) → PlainTried
+    → Type 0
+TriesCall c step call old new (done_by a) = Adds (IsAnswerOf c step call a) old new × IsBetweenCalls c (step + 1) new
+TriesCall c step call old new took_part =
     Adds (IsPartOf c step call) old new
     × IsUnderWay c step call (generation_of old) new
     × ((standing_at c new).waits ≡ false)
-Tries c step call old new must_wait =
+TriesCall c step call old new must_wait =
     (((new ≡ old) × ((standing_at c old).waits ≡ true)) ⊎ Adds (IsWaitOf c step call) old new) × Rests c step call new

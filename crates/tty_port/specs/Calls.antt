@@ -8,7 +8,7 @@ use Rattle.port_cell.specs.Views.{bit_of}
 use Rattle.port_cell.specs.Word.{generation_in, changing_in, users_in}
 use Rattle.port_cell.specs.Knowledge.{CellSeat, list_seen, own_entries, last_word, step_count, install_count}
 use Rattle.tty_port.specs.Inside.{Name, EntryWithCall}
-use Rattle.tty_port.specs.Seen.{IsBetween}
+use Rattle.tty_port.specs.Seen.{IsBetweenCalls}
 use Rattle.tty_port.specs.Adding.{IsAnswerOf, IsPartOf, IsWaitOf}
 use Rattle.tty_port.specs.declared.kept_port.KeptPort.{KeptPort}
 
@@ -60,7 +60,7 @@ pub record IsAnswered (c step : ℕ) (call : PlainCall) (a : PlainAnswer) (old n
   pub are_pauses : ArePauses c step call pauses
   pub is_answer : IsAnswerOf c step call a last
   pub one : KeepGeneration (pauses ++ last ∷ [])
-  pub next : IsBetween c (step + 1) (list_seen new)
+  pub next : IsBetweenCalls c (step + 1) (list_seen new)
   -- the last entry, with those since the last wait, has the generation that the seat last found in the reference word
   pub held : last.what.entry.generation ≡ generation_in (last_word new)
   -- each wait is followed by a new reference: the one before was given back

@@ -1,6 +1,7 @@
 -- What a flush run comes to, as the flusher's seat knows it.
-use Rattle.std.specs.Prelude.{◌≡◌, ℕ, ◌+◌, ◌<◌, ◌≤◌, List, [], ◌∷◌, ◌++◌, Bool, true}
-use Rattle.std.specs.Prelude.{false, IsTrue, Option, None, ◌==◌, if◌then◌else◌, length}
+use Rattle.std.specs.Prelude.{◌≡◌, ℕ, ◌+◌, ◌<◌, ◌≤◌, List, [], ◌∷◌, ◌++◌, true}
+use Rattle.std.specs.Prelude.{false, IsTrue, None, ◌==◌, if◌then◌else◌, length}
+use Rattle.tty_base.specs.Sizes.{MOST_ENTRIES, PIECE}
 use Rattle.tty_base.specs.declared.characters.Flagged.{Flagged}
 use Rattle.tty_calls.specs.declared.journals.Who.TheVariants.{Flusher}
 use Rattle.tty_calls.specs.Plain.{flushed}
@@ -28,7 +29,7 @@ pub record IsPiece (m run part generation : ℕ) (x : Stamped EntryWithCall) : T
   pub at_generation : x.what.entry.generation ≡ generation
   pub chars : List Flagged
   pub some : 0 < length chars
-  pub few : length chars ≤ 64
+  pub few : length chars ≤ PIECE
   pub happened : x.what.entry.event ≡ flushed chars
   pub keeps : x.what.call ≡ None
 
@@ -43,14 +44,14 @@ IsCaughtUp t = is_stuck t ≡ false → t.sent ≤ t.taken
 
 -- Made on this history, the piece has as many characters as a piece may have, or leaves a port that can be flushed no
 -- further.
-abbrev pub IsWhole : Name → List (Stamped EntryWithCall) → Stamped EntryWithCall → Type 0
-IsWhole name before x = length (chars_at (x ∷ [])) < 64 → IsCaughtUp (terminal_at name (before ++ x ∷ []))
+abbrev pub IsWholePiece : Name → List (Stamped EntryWithCall) → Stamped EntryWithCall → Type 0
+IsWholePiece name before x = length (chars_at (x ∷ [])) < PIECE → IsCaughtUp (terminal_at name (before ++ x ∷ []))
 
 -- each of these pieces, on the front of the history before it
 abbrev pub AreWhole : Name → (all made : List (Stamped EntryWithCall)) → Type 0
 AreWhole name all [] = Unit {0}
 AreWhole name all (x ∷ xs) =
-    ((before : List (Stamped EntryWithCall)) × Begins (before ++ x ∷ []) all × IsWhole name before x)
+    ((before : List (Stamped EntryWithCall)) × Begins (before ++ x ∷ []) all × IsWholePiece name before x)
     × AreWhole name all xs
 
 -- No more can be flushed, and once the line is over nothing is left to flush.
@@ -82,10 +83,11 @@ pub record GoesOnAt (run part generation : ℕ) (xs : List (Stamped EntryWithCal
   pub one : 0 < part → RunHas run generation (entries_in xs)
 
 -- what a piece came to
-abbrev pub Hands : (name : Name) (run part : ℕ) (old new : List (Stamped EntryWithCall)) → Flushed → Type 0
-Hands name run part old new (outcome.Took n) =
+abbrev pub FlushesPiece : (name : Name) (run part : ℕ) (old new : List (Stamped EntryWithCall)) → Flushed → Type 0
+FlushesPiece name run part old new (outcome.Took n) =
     Adds
-    (λ x. IsPiece name.callers run part (generation_of old) x × (n ≡ length (chars_at (x ∷ []))) × IsWhole name old x)
+    (λ x. IsPiece name.callers run part (generation_of old) x × (n ≡ length (chars_at (x ∷ [])))
+    × IsWholePiece name old x)
     old new
-    × GoesOnAt run (part + 1) (generation_of old) new × (next_run new ≡ run + 1) × (length new ≤ 4194304)
-Hands name run part old new outcome.Nothing = (new ≡ old) × HasNothingLeft (terminal_at name old)
+    × GoesOnAt run (part + 1) (generation_of old) new × (next_run new ≡ run + 1) × (length new ≤ MOST_ENTRIES)
+FlushesPiece name run part old new outcome.Nothing = (new ≡ old) × HasNothingLeft (terminal_at name old)

@@ -1,7 +1,8 @@
 -- How a call, or a flush run, goes on from turn to turn.
 use Rattle.std.specs.Prelude.{◌≡◌, ◌⊎◌, ℕ, ◌+◌, ◌*◌, ◌<◌, ◌≤◌, List, [], ◌∷◌}
-use Rattle.std.specs.Prelude.{◌++◌, Bool, true, false, MatchBool, length}
-use Rattle.tty_calls.specs.Plain.{PlainCall, PlainAnswer, changes}
+use Rattle.std.specs.Prelude.{◌++◌, true, false, MatchBool, length}
+use Rattle.tty_base.specs.Sizes.{MOST_ENTRIES, PIECE}
+use Rattle.tty_calls.specs.Plain.{PlainCall, PlainAnswer}
 use Rattle.port_core.specs.Attempts.{PlainTried, done_by, took_part, must_wait}
 use Rattle.port_core.specs.declared.ports.flushing.Flushed.{Flushed}
 use Rattle.port_core.specs.declared.ports.flushing.Flushed.TheVariants as outcome
@@ -10,11 +11,11 @@ use Rattle.port_cell.specs.Entries.{generation_of, Begins}
 use Rattle.port_cell.specs.Word.{generation_in}
 use Rattle.port_cell.specs.Knowledge.{list_seen, own_entries, last_word, step_count, install_count}
 use Rattle.tty_port.specs.Inside.{Name, EntryWithCall}
-use Rattle.tty_port.specs.Seen.{standing_at, IsBetween, chars_at, next_run, terminal_at}
+use Rattle.tty_port.specs.Seen.{standing_at, IsBetweenCalls, chars_at, next_run, terminal_at}
 use Rattle.tty_port.specs.Adding.{IsAnswerOf, IsPartOf, IsWaitOf, IsUnderWay, Rests}
 use Rattle.tty_port.specs.Calls.{PortSeat, Pauses, is_wait}
 use Rattle.tty_port.specs.Lines.{MakesOne, MakesNone}
-use Rattle.tty_port.specs.Flushing.{IsPiece, ArePieces, IsWhole, AreWhole, GoesOnAt, HasNothingLeft, run_past}
+use Rattle.tty_port.specs.Flushing.{IsPiece, ArePieces, IsWholePiece, AreWhole, GoesOnAt, HasNothingLeft, run_past}
 
 -- an entry of this kind, made in this generation
 pub record IsMadeIn (generation : ℕ) (P : Stamped EntryWithCall → Type 0) (before : List (Stamped EntryWithCall))
@@ -25,7 +26,7 @@ pub record IsMadeIn (generation : ℕ) (P : Stamped EntryWithCall → Type 0) (b
 -- what a turn of a call came to, in this generation
 abbrev pub Turns : ℕ → ℕ → PlainCall → (generation : ℕ) → PortSeat → PortSeat → PlainTried → Type 0
 Turns c step call generation old new (done_by a) =
-    MakesOne (IsMadeIn generation (IsAnswerOf c step call a)) old new × IsBetween c (step + 1) (list_seen new)
+    MakesOne (IsMadeIn generation (IsAnswerOf c step call a)) old new × IsBetweenCalls c (step + 1) (list_seen new)
 Turns c step call generation old new took_part =
     MakesOne (IsMadeIn generation (IsPartOf c step call)) old new
     × IsUnderWay c step call generation (list_seen new) × ((standing_at c (list_seen new)).waits ≡ false)
@@ -69,7 +70,7 @@ pub record IsGoing (c step : ℕ) (call : PlainCall) (generation : ℕ) (old new
 -- the one turn of a call that may change the discipline
 pub record Changes (c step : ℕ) (call : PlainCall) (a : PlainAnswer) (old new : PortSeat) : Type 0 where
   pub made : MakesOne (IsMadeIn (generation_in (last_word new)) (IsAnswerOf c step call a)) old new
-  pub next : IsBetween c (step + 1) (list_seen new)
+  pub next : IsBetweenCalls c (step + 1) (list_seen new)
   pub installed : install_count new + generation_in (last_word new) ≡ install_count old + generation_of (list_seen new)
 
 -- the flush run so far: this number of pieces, with so many characters
@@ -81,7 +82,7 @@ pub record IsFlushing (name : Name) (run part n : ℕ) (old new : PortSeat) : Ty
   pub whole : AreWhole name (list_seen new) made
   pub parts : length made ≡ part
   pub count : n ≡ length (chars_at made)
-  pub few : n ≤ 64 * part
+  pub few : n ≤ PIECE * part
   pub next : next_run (list_seen new) ≡ run_past run n
   pub installed : install_count new ≡ install_count old
 
@@ -89,11 +90,12 @@ pub record IsFlushing (name : Name) (run part n : ℕ) (old new : PortSeat) : Ty
 abbrev pub FlushTurns : (name : Name) (run part generation : ℕ) → PortSeat → PortSeat → Flushed → Type 0
 FlushTurns name run part generation old new (outcome.Took n) =
     MakesOne
-    (λ before x. IsPiece name.callers run part generation x × (n ≡ length (chars_at (x ∷ []))) × IsWhole name before x)
+    (λ before x. IsPiece name.callers run part generation x × (n ≡ length (chars_at (x ∷ [])))
+    × IsWholePiece name before x)
     old new
     × GoesOnAt run (part + 1) generation (list_seen new)
     × (next_run (list_seen new) ≡ run + 1)
-    × (length (list_seen new) ≤ 4194304)
+    × (length (list_seen new) ≤ MOST_ENTRIES)
 FlushTurns name run part generation old new outcome.Nothing =
     MakesNone old new
     × (next_run (list_seen new) ≡ next_run (list_seen old))

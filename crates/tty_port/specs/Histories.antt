@@ -1,7 +1,6 @@
 -- A port as the value of a cell. Its journal is the history: each entry with the seat of its maker, the generation that
 -- stands since, and the call that the port keeps for it. Its name is what never changes.
 use Rattle.std.specs.Prelude.{ℕ, ◌+◌, List, [], ◌∷◌, Option, None, if◌then◌else◌}
-use Rattle.atomic_table.specs.Seated.{TableId}
 use Rattle.tty_calls.specs.declared.journals.Who.{Who}
 use Rattle.tty_calls.specs.declared.journals.Who.TheVariants.{Caller, Flusher, Line, Clock, Session}
 use Rattle.tty_calls.specs.Plain.{PlainCall, PlainEntry}

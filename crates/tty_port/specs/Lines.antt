@@ -32,7 +32,7 @@ pub record MakesNone (old new : PortSeat) : Type 0 where
 
 -- The putter met the end that takes out, of which these characters were taken: all that it put is pushed, and it loaded
 -- one head, which is their number. They begin what it put, and each head that it loaded is at most their number.
-pub record Meets (taken : List Flagged) (old new : PutterState Flagged) : Type 0 where
+pub record MeetsFlip (taken : List Flagged) (old new : PutterState Flagged) : Type 0 where
   pub putter : new ≡ with_loaded (record old { pushed = old.sent }) (length taken)
   pub begins : IsPrefix taken old.sent
   pub heads : All (λ h. h ≤ length taken) new.heads
@@ -43,4 +43,4 @@ pub record Meets (taken : List Flagged) (old new : PutterState Flagged) : Type 0
 pub record EndsLine (n : ℕ) (old new : PutterState Flagged) (before : List (Stamped EntryWithCall))
     (x : Stamped EntryWithCall) : Type 0 where
   pub entry : IsEntry n Line (marks_at before).phase (line_ended (length old.sent)) x
-  pub meets : Meets (chars_at before) old new
+  pub meets : MeetsFlip (chars_at before) old new

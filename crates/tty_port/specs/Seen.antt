@@ -1,5 +1,5 @@
 -- What a history tells, as a seat has seen it.
-use Rattle.std.specs.Prelude.{◌≡◌, ℕ, ◌+◌, List, [], ◌∷◌, Bool, true, false, Option, None, Some, map, sum}
+use Rattle.std.specs.Prelude.{◌≡◌, ℕ, ◌+◌, List, [], ◌∷◌, false, Option, None, Some, map, sum}
 use Rattle.tty_base.specs.declared.characters.Flagged.{Flagged}
 use Rattle.tty_calls.specs.Plain.{PlainEntry}
 use Rattle.tty_terminal.specs.declared.callers.Piece.{Piece}
@@ -35,7 +35,7 @@ abbrev pub terminal_at : Name → List (Stamped EntryWithCall) → Terminal
 terminal_at name xs = led_to (opening (sum name.counts) name.capacity) xs
 
 -- the caller is between two calls of a phase in which its calls are not over
-pub record IsBetween (c step : ℕ) (xs : List (Stamped EntryWithCall)) : Type 0 where
+pub record IsBetweenCalls (c step : ℕ) (xs : List (Stamped EntryWithCall)) : Type 0 where
   pub next : (standing_at c xs).next ≡ step
   pub not_over : (standing_at c xs).over ≡ false
   pub not_begun : (standing_at c xs).begun ≡ false

@@ -1,5 +1,5 @@
 -- A shared port and its seats.
-use Rattle.std.specs.Prelude.{◌≡◌, ℕ, ◌+◌, List, [], ◌∷◌, Bool, false, Some}
+use Rattle.std.specs.Prelude.{◌≡◌, ℕ, ◌+◌, List, [], ◌∷◌, false, Some}
 use Rattle.atomic_table.specs.Seated.{TableId}
 use Rattle.port_cell.specs.declared.kept.Stamped.{Stamped}
 use Rattle.port_cell.specs.declared.view.User.{User}
@@ -7,7 +7,7 @@ use Rattle.port_cell.specs.declared.view.User.TheVariants.{Free, Held, Marked, A
 use Rattle.port_cell.specs.Entries.{Keeps, entries_by}
 use Rattle.port_cell.specs.Word.{generation_in}
 use Rattle.port_cell.specs.Knowledge.{number_of, name_of, list_seen, own_entries}
-use Rattle.port_cell.specs.Knowledge.{user_of, has_turn, is_raised, last_word}
+use Rattle.port_cell.specs.Knowledge.{user_of, has_turn, last_word}
 use Rattle.port_cell.specs.Seats.{IsSeat}
 use Rattle.port_cell.specs.Cells.{identity_of, opening_value}
 use Rattle.tty_port.specs.Inside.{Name, EntryWithCall}

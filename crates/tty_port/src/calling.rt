@@ -1,6 +1,7 @@
 //! Calls of callers.
 
-ghost use Rattle.std.specs.Prelude.{◌≡◌, ◌<◌, ◌≤◌, ◌^◌, false, IfOk, IfErr, OnOk, OnErr, IfSome, IfNone, sum};
+ghost use Rattle.std.specs.Prelude.{◌≡◌, ◌<◌, ◌≤◌, ◌^◌, false, IfOk, IfErr, OnErr, IfSome, IfNone, sum};
+ghost use Rattle.tty_base.specs.Sizes.{MOST_HANDLES};
 ghost use Rattle.tty_calls.specs.Plain.{call_of, handle_of, changes, answer_of};
 ghost use Rattle.tty_calls.specs.Limits.{byte_count};
 ghost use Rattle.port_core.specs.Attempts.{tried_of, done_by};
@@ -8,7 +9,7 @@ ghost use Rattle.port_cell.specs.Entries.{generation_of};
 ghost use Rattle.port_cell.specs.Word.{generation_in, changing_in};
 ghost use Rattle.port_cell.specs.Knowledge.{list_seen, last_word, step_count, install_count};
 ghost use Rattle.port_cell.specs.Seats.{KeepsUse};
-ghost use Rattle.tty_port.specs.Seen.{IsBetween};
+ghost use Rattle.tty_port.specs.Seen.{IsBetweenCalls};
 ghost use Rattle.tty_port.specs.Placed.{ArePlaced};
 ghost use Rattle.tty_port.specs.Adding.{IsFull, IsUnderWay};
 ghost use Rattle.tty_port.specs.Calls.{Answers, IsAnswered, Pauses};
@@ -39,9 +40,9 @@ impl SharedPort {
     ) -> Result<Answer, Denied>
         requires seat { IsHere self.now caller seat.old }
         requires known { caller < sum (name_of_port self.now).counts }
-        requires number { handle_of (call_of call.now) < 32 }
+        requires number { handle_of (call_of call.now) < MOST_HANDLES }
         requires bytes { byte_count (call_of call.now) < 2 ^ 32 }
-        requires ready { IsBetween caller step (list_seen seat.old) }
+        requires ready { IsBetweenCalls caller step (list_seen seat.old) }
         ensures seat { IsHere self.now caller seat.new }
         ensures placed { ArePlaced (name_of_port self.now).callers (sum (name_of_port self.now).counts)
             (list_seen seat.new) }
@@ -73,7 +74,7 @@ impl SharedPort {
         requires seat { IsHolding self.now caller seat.old }
         requires found { changing_in (last_word seat.old) ≡ 0 }
         requires known { caller < sum (name_of_port self.now).counts }
-        requires number { handle_of (call_of call.now) < 32 }
+        requires number { handle_of (call_of call.now) < MOST_HANDLES }
         requires bytes { byte_count (call_of call.now) < 2 ^ 32 }
         requires keeps { changes (call_of call.now) ≡ false }
         requires ready { IsUnderWay caller step (call_of call.now) (generation_in (last_word seat.old))
@@ -114,7 +115,7 @@ impl SharedPort {
         requires seat { IsHolding self.now caller seat.old }
         requires found { changing_in (last_word seat.old) ≡ 0 }
         requires known { caller < sum (name_of_port self.now).counts }
-        requires number { handle_of (call_of call.now) < 32 }
+        requires number { handle_of (call_of call.now) < MOST_HANDLES }
         requires bytes { byte_count (call_of call.now) < 2 ^ 32 }
         requires keeps { changes (call_of call.now) ≡ false }
         requires ready { IsUnderWay caller step (call_of call.now) (generation_in (last_word seat.old))
@@ -160,7 +161,7 @@ impl SharedPort {
     ) -> Result<Tried, Denied>
         requires seat { IsHolding self.now caller seat.old }
         requires known { caller < sum (name_of_port self.now).counts }
-        requires number { handle_of (call_of call.now) < 32 }
+        requires number { handle_of (call_of call.now) < MOST_HANDLES }
         requires bytes { byte_count (call_of call.now) < 2 ^ 32 }
         requires keeps { changes (call_of call.now) ≡ false }
         requires ready { IsUnderWay caller step (call_of call.now) (generation_in (last_word seat.old))

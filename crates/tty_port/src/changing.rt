@@ -1,7 +1,8 @@
 //! Calls that may change the line discipline.
 
-ghost use Rattle.std.specs.Prelude.{◌≡◌, ◌⊎◌, ◌+◌, ◌<◌, ◌≤◌, ◌^◌, true, false, Some, IfOk};
-ghost use Rattle.std.specs.Prelude.{IfErr, OnErr, IsTrue, MatchBool, length, sum, if◌then◌else◌};
+ghost use Rattle.std.specs.Prelude.{◌≡◌, ◌+◌, ◌<◌, ◌≤◌, ◌^◌, true, false, Some, IfOk};
+ghost use Rattle.std.specs.Prelude.{IfErr, OnErr, MatchBool, length, sum, if◌then◌else◌};
+ghost use Rattle.tty_base.specs.Sizes.{MOST_ENTRIES, MOST_HANDLES};
 ghost use Rattle.tty_calls.specs.Plain.{call_of, handle_of, changes, answer_of};
 ghost use Rattle.tty_calls.specs.Limits.{byte_count};
 ghost use Rattle.port_cell.specs.Entries.{generation_of, AddsBy};
@@ -11,10 +12,10 @@ ghost use Rattle.port_cell.specs.Knowledge.{has_turn, is_raised, install_count, 
 ghost use Rattle.port_cell.specs.Seats.{IsSeat, IsSameSeat, KeepsWord};
 ghost use Rattle.port_cell.specs.Lent.{value_in};
 ghost use Rattle.tty_port.specs.Histories.{history_of, name_of as port_name};
-ghost use Rattle.tty_port.specs.Seen.{IsBetween};
+ghost use Rattle.tty_port.specs.Seen.{IsBetweenCalls};
 ghost use Rattle.tty_port.specs.Placed.{ArePlaced};
-ghost use Rattle.tty_port.specs.Adding.{IsFull, IsAnswerOf};
-ghost use Rattle.tty_port.specs.Lines.{MakesOne, MakesNone};
+ghost use Rattle.tty_port.specs.Adding.{IsFull};
+ghost use Rattle.tty_port.specs.Lines.{MakesNone};
 ghost use Rattle.tty_port.specs.Going.{Changes};
 ghost use Rattle.tty_port.specs.Shared.{IsHere, IsByItself, name_of_port, table_of};
 
@@ -38,10 +39,10 @@ impl SharedPort {
     ) -> Result<Answer, Denied>
         requires seat { IsByItself self.now caller seat.old }
         requires known { caller < sum (name_of_port self.now).counts }
-        requires number { handle_of (call_of call.now) < 32 }
+        requires number { handle_of (call_of call.now) < MOST_HANDLES }
         requires bytes { byte_count (call_of call.now) < 2 ^ 32 }
         requires may { changes (call_of call.now) ≡ true }
-        requires ready { IsBetween caller step (list_seen seat.old) }
+        requires ready { IsBetweenCalls caller step (list_seen seat.old) }
         ensures seat { IsHere self.now caller seat.new }
         ensures placed { ArePlaced (name_of_port self.now).callers (sum (name_of_port self.now).counts)
             (list_seen seat.new) }
@@ -76,7 +77,7 @@ impl SharedPort {
         requires list { AddsBy (number_of seat.old) (list_seen seat.old) (history_of (value_in turn)) }
         requires generation { MatchBool raised
             ((generation_of (history_of (value_in turn)) ≡ generation_of (list_seen seat.old) + 1)
-            × (generation_of (history_of (value_in turn)) ≤ 4194304))
+            × (generation_of (history_of (value_in turn)) ≤ MOST_ENTRIES))
             (generation_of (history_of (value_in turn)) ≡ generation_of (list_seen seat.old)) }
         ensures seat { IsSeat (table_of self.now) seat.new }
         ensures same { IsSameSeat seat.old seat.new }
@@ -104,7 +105,7 @@ impl SharedPort {
         requires name { name_of seat.old ≡ Some (port_name (value_in turn)) }
         requires list { AddsBy (number_of seat.old) (list_seen seat.old) (history_of (value_in turn)) }
         requires raised { generation_of (history_of (value_in turn)) ≡ generation_of (list_seen seat.old) + 1 }
-        requires few { generation_of (history_of (value_in turn)) ≤ 4194304 }
+        requires few { generation_of (history_of (value_in turn)) ≤ MOST_ENTRIES }
         ensures seat { IsSeat (table_of self.now) seat.new }
         ensures same { IsSameSeat seat.old seat.new }
         ensures word { KeepsWord seat.old seat.new }

@@ -1,6 +1,7 @@
 //! Flush runs.
 
 ghost use Rattle.std.specs.Prelude.{◌≡◌, ◌≤◌, ℕ, IfOk, IfErr, OnOk, OnErr, sum};
+ghost use Rattle.tty_base.specs.Sizes.{MOST_ENTRIES};
 ghost use Rattle.port_cell.specs.Word.{generation_in};
 ghost use Rattle.port_cell.specs.Knowledge.{list_seen, last_word};
 ghost use Rattle.port_cell.specs.Seats.{KeepsUse};
@@ -19,7 +20,7 @@ use std::sync::Wait;
 use tty_calls::Denied;
 
 impl SharedPort {
-    /// Hands over what is sent and not taken, piece by piece under one reference, until a turn finds
+    /// Flushes what is sent and not taken, piece by piece under one reference, until a turn finds
     /// that no handle is live, that the discipline does not accept, or that nothing is left; and
     /// answers how many characters went.
     pub fn flush_run<R: Wait>(&self, rt: &R, seat: &mut Seat, run: u32) -> Result<u32, Denied>
@@ -32,7 +33,7 @@ impl SharedPort {
         ensures last { OnOk result (HasNothingLeft (terminal_at (name_of_port self.now) (list_seen seat.new))) }
         ensures err { OnErr result ((n : ℕ) × FlushesRun (name_of_port self.now) run n seat.old seat.new) }
         ensures full { IfErr result (λ d. IsFull (name_of_port self.now) d (list_seen seat.new)) }
-        ensures few { next_run (list_seen seat.new) ≤ 4194304 }
+        ensures few { next_run (list_seen seat.new) ≤ MOST_ENTRIES }
     {
         self.note_flusher_look();
         self.hold(rt, seat);
@@ -55,7 +56,7 @@ impl SharedPort {
         ensures err { OnErr result
             ((part : ℕ) × (n : ℕ) × IsFlushing (name_of_port self.now) run part n seat.old seat.new) }
         ensures full { IfErr result (λ d. IsFull (name_of_port self.now) d (list_seen seat.new)) }
-        ensures few { next_run (list_seen seat.new) ≤ 4194304 }
+        ensures few { next_run (list_seen seat.new) ≤ MOST_ENTRIES }
     {
         let mut count = 0;
         let mut part = 0;
@@ -91,7 +92,7 @@ impl SharedPort {
         ensures err { OnErr result (MakesNone seat.old seat.new) }
         ensures next { OnErr result (next_run (list_seen seat.new) ≡ next_run (list_seen seat.old)) }
         ensures full { IfErr result (λ d. IsFull (name_of_port self.now) d (list_seen seat.new)) }
-        ensures few { next_run (list_seen seat.new) ≤ 4194304 }
+        ensures few { next_run (list_seen seat.new) ≤ MOST_ENTRIES }
     {
         let (mut turn, found) = self.begin_turn(rt, seat);
         let flushed = turn.value().flush_piece(run, part);

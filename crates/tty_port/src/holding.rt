@@ -1,7 +1,6 @@
 //! References, and the mark of a seat that is about to change the generation.
 
 ghost use Rattle.std.specs.Prelude.{◌≡◌, ◌<◌};
-ghost use Rattle.port_cell.specs.declared.view.User.TheVariants.{Free};
 ghost use Rattle.port_cell.specs.Word.{changing_in, users_in};
 ghost use Rattle.port_cell.specs.Knowledge.{number_of, last_word, step_count};
 ghost use Rattle.port_cell.specs.Seats.{KeepsTurn, KeepsWord};

@@ -1,7 +1,8 @@
 //! The port in the cell, and what one turn does with it.
 
 ghost use Rattle.std.specs.Prelude.{◌≡◌, ◌+◌, ◌<◌, ◌≤◌, ◌^◌, true, false, IfOk};
-ghost use Rattle.std.specs.Prelude.{IfErr, OnOk, OnErr, IsTrue, length, sum};
+ghost use Rattle.std.specs.Prelude.{IfErr, OnOk, OnErr, length, sum};
+ghost use Rattle.tty_base.specs.Sizes.{MOST_ENTRIES, MOST_HANDLES};
 ghost use Rattle.tty_calls.specs.Plain.{call_of, handle_of, changes, ticked, clock_ended, caller_ended};
 ghost use Rattle.tty_calls.specs.declared.journals.Who.TheVariants.{Caller, Clock};
 ghost use Rattle.tty_calls.specs.Limits.{byte_count};
@@ -9,10 +10,10 @@ ghost use Rattle.tty_terminal.specs.Steps.{may_end};
 ghost use Rattle.port_core.specs.Attempts.{tried_of, Raises, IsAtOnce};
 ghost use Rattle.port_cell.specs.Entries.{generation_of, AddsBy};
 ghost use Rattle.tty_port.specs.Histories.{history_of, name_of};
-ghost use Rattle.tty_port.specs.Seen.{standing_at, marks_at, next_run, terminal_at, IsBetween};
+ghost use Rattle.tty_port.specs.Seen.{standing_at, marks_at, next_run, terminal_at, IsBetweenCalls};
 ghost use Rattle.tty_port.specs.Placed.{IsHistoryOf};
-ghost use Rattle.tty_port.specs.Adding.{Adds, IsEntry, IsFull, IsUnderWay, Tries};
-ghost use Rattle.tty_port.specs.Flushing.{GoesOnAt, Hands};
+ghost use Rattle.tty_port.specs.Adding.{Adds, IsEntry, IsFull, IsUnderWay, TriesCall};
+ghost use Rattle.tty_port.specs.Flushing.{GoesOnAt, FlushesPiece};
 ghost use Rattle.tty_port.specs.Lines.{EndsLine};
 
 use crate::names::{HistoryEntry, PortName};
@@ -44,13 +45,13 @@ impl Kept for KeptPort {
     }
 
     fn generation(&self) -> u32 {
-        let _journal = self.port.journal();
+        self.port.known();
         self.port.generation()
     }
 }
 
 /// The most characters of a piece of a flush run.
-const PIECE: u32 = 64;
+const PIECE: u32 = tty_base::sizes::PIECE as u32;
 
 impl KeptPort {
     /// How many entries the journal has.
@@ -65,47 +66,46 @@ impl KeptPort {
     /// Tries a call of a caller.
     pub(crate) fn attempt(&mut self, caller: u16, step: u32, call: &Call) -> Result<Tried, Denied>
         requires known { caller < sum (name_of self.old).counts }
-        requires number { handle_of (call_of call.now) < 32 }
+        requires number { handle_of (call_of call.now) < MOST_HANDLES }
         requires bytes { byte_count (call_of call.now) < 2 ^ 32 }
         requires ready { IsUnderWay caller step (call_of call.now) (generation_of (history_of self.old))
             (history_of self.old) }
         ensures name { name_of self.new ≡ name_of self.old }
         ensures tried { IfOk result (λ tried.
-            Tries caller step (call_of call.now) (history_of self.old) (history_of self.new) (tried_of tried)) }
+            TriesCall caller step (call_of call.now) (history_of self.old) (history_of self.new) (tried_of tried)) }
         ensures same { OnErr result (history_of self.new ≡ history_of self.old) }
         ensures full { IfErr result (λ d. IsFull (name_of self.new) d (history_of self.new)) }
         ensures at_once { changes (call_of call.now) ≡ true → IfOk result (λ tried. IsAtOnce (tried_of tried)) }
         ensures by { AddsBy caller (history_of self.old) (history_of self.new) }
         ensures generation { Raises (changes (call_of call.now)) (generation_of (history_of self.old))
             (generation_of (history_of self.new)) }
-        ensures few { generation_of (history_of self.new) ≤ 4194304 }
+        ensures few { generation_of (history_of self.new) ≤ MOST_ENTRIES }
         ensures history { IsHistoryOf self.new.callers self.new.port.value (history_of self.new) }
     {
         let port = &mut *self.port;
-        let _journal = port.journal();
-        port.own_entries_tell();
+        port.known();
         let tried = port.attempt(caller, step, call);
-        let _journal = port.journal();
+        port.known();
         port.generation();
         tried
     }
 
-    /// Hands over a piece of a flush run, of at most 64 characters.
+    /// Flushes a piece of a flush run, of at most 64 characters.
     pub(crate) fn flush_piece(&mut self, run: u32, part: u32) -> Result<Flushed, Denied>
         requires { GoesOnAt run part (generation_of (history_of self.old)) (history_of self.old) }
         ensures name { name_of self.new ≡ name_of self.old }
         ensures flushed { IfOk result
-            (λ flushed. Hands (name_of self.old) run part (history_of self.old) (history_of self.new) flushed) }
+            (λ flushed. FlushesPiece (name_of self.old) run part (history_of self.old) (history_of self.new) flushed) }
         ensures same { OnErr result (history_of self.new ≡ history_of self.old) }
         ensures full { IfErr result (λ d. IsFull (name_of self.new) d (history_of self.new)) }
         ensures by { AddsBy (name_of self.old).callers (history_of self.old) (history_of self.new) }
-        ensures few { next_run (history_of self.new) ≤ 4194304 }
+        ensures few { next_run (history_of self.new) ≤ MOST_ENTRIES }
         ensures generation { generation_of (history_of self.new) ≡ generation_of (history_of self.old) }
     {
         let port = &mut *self.port;
-        let _journal = port.journal();
+        port.known();
         let flushed = port.flush_piece(run, part, PIECE);
-        let _journal = port.journal();
+        port.known();
         flushed
     }
 
@@ -122,7 +122,7 @@ impl KeptPort {
         ensures generation { generation_of (history_of self.new) ≡ generation_of (history_of self.old) }
     {
         let port = &mut *self.port;
-        let _journal = port.journal();
+        port.known();
         port.tick()
     }
 
@@ -139,7 +139,7 @@ impl KeptPort {
         ensures generation { generation_of (history_of self.new) ≡ generation_of (history_of self.old) }
     {
         let port = &mut *self.port;
-        let _journal = port.journal();
+        port.known();
         port.clock_end()
     }
 
@@ -159,14 +159,14 @@ impl KeptPort {
         ensures generation { generation_of (history_of self.new) ≡ generation_of (history_of self.old) }
     {
         let port = &mut *self.port;
-        let _journal = port.journal();
+        port.known();
         port.line_end(putter)
     }
 
     /// The calls of a caller in the phase that runs are over.
     pub(crate) fn caller_end(&mut self, caller: u16) -> Result<(), Denied>
         requires known { caller < sum (name_of self.old).counts }
-        requires between { IsBetween caller (standing_at caller (history_of self.old)).next (history_of self.old) }
+        requires between { IsBetweenCalls caller (standing_at caller (history_of self.old)).next (history_of self.old) }
         ensures name { name_of self.new ≡ name_of self.old }
         ensures ok { OnOk result (Adds
             (IsEntry caller (Caller caller) (standing_at caller (history_of self.old)).next caller_ended)
@@ -177,8 +177,7 @@ impl KeptPort {
         ensures generation { generation_of (history_of self.new) ≡ generation_of (history_of self.old) }
     {
         let port = &mut *self.port;
-        let _journal = port.journal();
-        port.own_entries_tell();
+        port.known();
         port.caller_end(caller)
     }
 
@@ -187,7 +186,7 @@ impl KeptPort {
         ensures { result ≡ may_end (name_of self.now).counts (terminal_at (name_of self.now) (history_of self.now)) }
     {
         let port = &*self.port;
-        let _journal = port.journal();
+        port.known();
         port.may_end()
     }
 }

@@ -1,6 +1,7 @@
 //! The port, from its first seat to its last.
 
 ghost use Rattle.std.specs.Prelude.{◌≡◌, ◌+◌, ◌-◌, ◌<◌, ◌≤◌, IfOk, length};
+ghost use Rattle.tty_base.specs.Sizes.{MOST_SEATS};
 ghost use Rattle.port_core.specs.Ports.{IsPort};
 ghost use Rattle.port_cell.specs.Entries.{generation_of, GoesOn};
 ghost use Rattle.port_cell.specs.Views.{total};
@@ -37,7 +38,7 @@ impl SharedPort {
     /// clock and session have the last four. Each has seen the port's history so far.
     pub fn new(alloc: Global, port: Port, seats: u32) -> Result<(SharedPort, Vec<Seat>), NoMemory>
         requires some { 4 ≤ seats }
-        requires few { seats ≤ 4096 }
+        requires few { seats ≤ MOST_SEATS }
         ensures name { IfOk result (λ r. name_of_port r.0 ≡ name_in (seats - 4) port) }
         ensures opening { IfOk result (λ r. opening_history r.0 ≡ history_in (seats - 4) port) }
         ensures history { IfOk result (λ r. IsHistoryOf (seats - 4) port (history_in (seats - 4) port)) }
@@ -81,7 +82,7 @@ impl SharedPort {
         let kept = cell.close(seats);
         kept.entry_count();
         let KeptPort { port, callers: _ } = kept;
-        let _journal = port.journal();
+        port.known();
         Box::into_inner(port)
     }
 }

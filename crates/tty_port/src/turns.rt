@@ -10,7 +10,7 @@ ghost use Rattle.port_cell.specs.Seats.{IsSeat, IsSameSeat, KeepsUse};
 ghost use Rattle.port_cell.specs.Lent.{value_in};
 ghost use Rattle.port_cell.specs.Views.{Knows};
 ghost use Rattle.tty_port.specs.Histories.{history_of, name_of as port_name};
-ghost use Rattle.tty_port.specs.Seen.{standing_at, marks_at, terminal_at, IsBetween};
+ghost use Rattle.tty_port.specs.Seen.{standing_at, marks_at, terminal_at, IsBetweenCalls};
 ghost use Rattle.tty_port.specs.Placed.{ArePlaced};
 ghost use Rattle.tty_port.specs.Adding.{IsEntry, IsFull};
 ghost use Rattle.tty_port.specs.Lines.{MakesOne, MakesNone, EndsLine};
@@ -153,7 +153,7 @@ impl SharedPort {
     pub fn caller_end<R: Wait>(&self, rt: &R, seat: &mut Seat, caller: u16) -> Result<(), Denied>
         requires seat { IsHere self.now caller seat.old }
         requires known { caller < sum (name_of_port self.now).counts }
-        requires between { IsBetween caller (standing_at caller (list_seen seat.old)).next (list_seen seat.old) }
+        requires between { IsBetweenCalls caller (standing_at caller (list_seen seat.old)).next (list_seen seat.old) }
         ensures seat { IsHere self.now caller seat.new }
         ensures references { KeepsUse seat.old seat.new }
         ensures ok { OnOk result (MakesOne

@@ -53,7 +53,7 @@ impl SharedPort {
         requires { IsHere self.now (number_of seat.old) seat.old }
         ensures { seat.new ≡ seat.old }
     {
-        let _seat = &*seat;
+        let _seat = &*seat; // for the contract alone
         let word = self.flusher_looked.load(Ordering::SeqCst);
         self.for_flusher.wait(rt, ChangeCount { word });
     }

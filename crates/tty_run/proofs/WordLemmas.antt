@@ -3,12 +3,13 @@ use Rattle.std.proofs.Common.{ℕ, List, Option, None, Some, IfSome, inl, inr}
 use Rattle.tty_one.specs.declared.words.Command.{Command}
 use Rattle.tty_one.specs.declared.words.Command.TheVariants.{Run, RunOne, Modem, Jobs, Gen, Check, Vt, VtOne}
 use Rattle.tty_one.specs.declared.works.Ending.{Ending}
-use Rattle.tty_one.specs.Endings.{Ask, AreKnown, AreOfOne, AreOnThreads, AreRun, AreRunOne, AskConsoles, AskModem, AskJobs}
+use Rattle.tty_one.specs.Endings.{Ask, AreKnown, AreOfOne, AreOnThreads, AreRun, AreRunOne, AskConsoles, AskModem}
+use Rattle.tty_one.specs.Endings.{AskJobs}
 use Rattle.tty_one.specs.Endings.{AskOneToRead, AskToPlay, AskToRead, AskVt, AskVtOne, IsOnThreads}
 use Rattle.tty_one.specs.Reported.{Returned}
 use Rattle.tty_one.specs.Outcome.{IsBroken, breaks_words, breaks_fault, breaks_long}
 use Rattle.tty_one.specs.Outcome.{breaks_refusal, breaks_text, breaks_verdict, IsDone, IsToldBy, WasGiven}
-use Rattle.tty_one.specs.Works.{CanEnd, ReadsNothing}
+use Rattle.tty_one.specs.Works.{CanEndWith, ReadsNothing}
 use Rattle.tty_one.proofs.Outcomes.{not_modem_and_run, not_modem_and_vt}
 use Rattle.tty_one.proofs.Outcomes.{not_jobs_and_run, not_jobs_and_vt, not_vt_and_run, one_if_not_on_threads}
 use Rattle.tty_one.proofs.Outcomes.{run_is_not_one, vt_is_not_one}
@@ -61,7 +62,7 @@ for_fewer Some_ask Fewer Comes (Some bytes) asks h = λ fewer. h (asks fewer)
 -- ---- words of threads
 
 -- a command of threads reads a text, and can end in each way; and it is not that of modem lines or of processes
-pub threads_end : (command : Command) (e : Ending) → IsOnThreads command → CanEnd command e
+pub threads_end : (command : Command) (e : Ending) → IsOnThreads command → CanEndWith command e
 threads_end (Run journals) e on = tt
 threads_end (RunOne journals) e on = absurd (on tt)
 threads_end Modem e on = absurd (on tt)

@@ -20,7 +20,8 @@ pub record IsPlayedOnThreads (words : List (List ℕ)) (left before now : Option
 
 -- The text that was read spells a session of consoles; the returned entries of their board are the account of its keys
 -- and operators' calls; each console has one returned run, which is legal for the keys that went there and leads to the
--- end that is reported; and the sink was given the report of that session, of these entries and runs, and of their ends.
+-- end that is reported; and the sink was given the report of that session, of these entries and runs, and of their
+-- ends.
 pub record AreConsolesToldOnThreads (left before now : Option (List ℕ)) (back : Returned) : Type 0 where
   pub text : List ℕ
   pub played : IsToldOfConsoles AreConsolesOnThreads left back text

@@ -10,10 +10,10 @@ ghost use Rattle.tty_one.specs.Works.{brought, IsWork, IsSessionWork, IsNeverFul
 ghost use Rattle.tty_one.specs.declared.playing.Telling.TheVariants.{Report};
 ghost use Rattle.tty_one.specs.declared.words.Command.TheVariants.{Run};
 
-use many_threads::play;
 use std::alloc::Global;
 use std::sync::Wait;
 use std::thread::Threads;
+use threads_play::play;
 use tty_base::{Bytes, NoMemory, Source};
 use tty_calls::Session;
 use tty_one::{Reading, Telling, Work, read_session, work_of};

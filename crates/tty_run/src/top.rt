@@ -1,9 +1,11 @@
 //! The top call: what the words ask for is done, on threads where they say so.
 
 ghost use Rattle.std.specs.Prelude.{◌≡◌, ◌⊎◌, ◌≢◌, ◌≤◌, [], None, IfSome, IfOk, OnErr, length};
+ghost use Rattle.tty_base.specs.Sizes.{MOST_TEXT};
 ghost use Rattle.tty_base.specs.Outside.{Rose, TookCount, LeavesRest};
 ghost use Rattle.tty_one.specs.Endings.{AreKnown, AreRun, AreGen, AskCheck, AskConsoles, AskModem, AskJobs, AskToPlay};
-ghost use Rattle.tty_one.specs.Endings.{AskToRead, AskVt, IsOfSource, IsOnThreads, IsShort, IsStatus, IsStatusOr, IsTold, texts_of};
+ghost use Rattle.tty_one.specs.Endings.{AskToRead, AskVt, IsOfSource, IsOnThreads, IsShort, IsStatus, IsStatusOr};
+ghost use Rattle.tty_one.specs.Endings.{IsTold, texts_of};
 ghost use Rattle.tty_one.specs.Reported.{nothing, returned};
 ghost use Rattle.tty_one.specs.Consoles.{CompletesConsoles};
 ghost use Rattle.tty_one.specs.Processes.{CompletesProcesses};
@@ -100,7 +102,7 @@ pub fn tty_run<R: Threads + Wait + Sync, S: Source, K: Sink, G: Gate + Sync>(
     // one that spells none is refused, unless the text could not be given or memory was wanting.
     ensures complete { IfSome (S.left source.old) (λ bytes.
         AskToPlay (texts_of words.now)
-        → length bytes ≤ 4194304
+        → length bytes ≤ MOST_TEXT
         → (Rose (S.faults source.old) (S.faults source.new) → ⊥)
         → Completes bytes result.status) }
     // The session of a number is played, unless its summary could not be given or memory was wanting, and
@@ -108,16 +110,16 @@ pub fn tty_run<R: Threads + Wait + Sync, S: Source, K: Sink, G: Gate + Sync>(
     ensures made { AreGen (texts_of words.now) → IsStatusOr 0 result.status }
     ensures unread { AreGen (texts_of words.now) → source.new ≡ source.old }
     // Likewise journals are judged: 0 exactly where every run is legal, else 7.
-    ensures judged { IfSome (S.left source.old) (λ bytes. AskCheck (texts_of words.now) → length bytes ≤ 4194304
+    ensures judged { IfSome (S.left source.old) (λ bytes. AskCheck (texts_of words.now) → length bytes ≤ MOST_TEXT
         → (Rose (S.faults source.old) (S.faults source.new) → ⊥) → CompletesCheck bytes result.status) }
     // Likewise a text that spells a session of consoles is played, and one that spells none is refused.
-    ensures consoles { IfSome (S.left source.old) (λ bytes. AskConsoles (texts_of words.now) → length bytes ≤ 4194304
+    ensures consoles { IfSome (S.left source.old) (λ bytes. AskConsoles (texts_of words.now) → length bytes ≤ MOST_TEXT
         → (Rose (S.faults source.old) (S.faults source.new) → ⊥) → CompletesConsoles bytes result.status) }
     // .. and a session of ports with modem lines.
-    ensures modem_lines { IfSome (S.left source.old) (λ bytes. AskModem (texts_of words.now) → length bytes ≤ 4194304
+    ensures modem_lines { IfSome (S.left source.old) (λ bytes. AskModem (texts_of words.now) → length bytes ≤ MOST_TEXT
         → (Rose (S.faults source.old) (S.faults source.new) → ⊥) → CompletesModemLines bytes result.status) }
     // .. and a session of processes.
-    ensures processes { IfSome (S.left source.old) (λ bytes. AskJobs (texts_of words.now) → length bytes ≤ 4194304
+    ensures processes { IfSome (S.left source.old) (λ bytes. AskJobs (texts_of words.now) → length bytes ≤ MOST_TEXT
         → (Rose (S.faults source.old) (S.faults source.new) → ⊥) → CompletesProcesses bytes result.status) }
 {
     let Some(command) = command_on_threads(words) else {

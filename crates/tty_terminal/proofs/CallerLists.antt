@@ -84,12 +84,5 @@ most_of : (b : Bool) (n : ℕ) → (if b then n + 1 else n) ≤ n + 1
 most_of true n = omega arith
 most_of false n = omega arith
 
-least_of : (b : Bool) (n : ℕ) → n ≤ (if b then n + 1 else n)
-least_of true n = omega arith
-least_of false n = omega arith
-
 pub begun_most : (s : CallerState) → begun_of s ≤ s.next + 1
 begun_most s = most_of (has_begun s) s.next
-
-pub begun_least : (s : CallerState) → s.next ≤ begun_of s
-begun_least s = least_of (has_begun s) s.next

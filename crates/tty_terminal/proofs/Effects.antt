@@ -5,6 +5,7 @@ use Rattle.std.proofs.Common.{arith}
 use Rattle.std.proofs.lemmas.List.{length-map, length-drop, length-take}
 use Rattle.std.proofs.lemmas.Bool.{eqb-true, false≢true}
 use Rattle.std.proofs.lemmas.Bool.Decides.{nat_tests}
+use Rattle.tty_base.specs.Sizes.{PIECE}
 use Rattle.tty_modes.specs.Settings.{Settings, character}
 use Rattle.tty_modes.specs.declared.places.TheConstants.{VSTART, VSTOP}
 use Rattle.flow_control.specs.Output.{Output, has_room, after_send, on_wire}
@@ -332,7 +333,7 @@ fitting_most modes column output (byte ∷ bytes) =
 pub piece_most : (modes : Settings) (tty : NTtyState) (output : Output) (bytes : List ℕ)
     → piece_size modes tty output bytes ≤ length bytes
 piece_most modes tty output bytes =
-    omega (arith, fitting_most modes tty.column output (take 64 bytes), length-take 64 bytes)
+    omega (arith, fitting_most modes tty.column output (take PIECE bytes), length-take PIECE bytes)
 
 abbrev OfNow : Terminal → CallerState → Type 0
 OfNow t s = nat_lt 0 s.parts ≡ true → s.generation ≡ t.generation

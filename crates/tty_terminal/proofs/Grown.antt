@@ -11,11 +11,11 @@ use Rattle.tty_terminal.specs.Calls.{outcome_of}
 use Rattle.tty_terminal.specs.Steps.{Answers, Drops, MustWait, TakesPart, quiet, left_by, IsAnswer, IsPart, IsWait}
 use Rattle.tty_terminal.specs.Steps.{ByCaller, by_caller, IsAllowed, after_event, Allowed, after, after_answer}
 use Rattle.tty_terminal.specs.Steps.{with_dropped, after_part, after_wait, handle_number}
-use Rattle.tty_terminal.specs.Runs.{Leads, Grows}
+use Rattle.tty_terminal.specs.Runs.{Leads, KnowsMore}
 
 -- a fact that fails where no call is known
 same_call : (f g : ℕ → ℕ → Option PlainCall) (c step : ℕ) (P : Option PlainCall → Type 0)
-    → Grows f g
+    → KnowsMore f g
     → (P None → ⊥)
     → (o : Option PlainCall)
     → f c step ≡ o
@@ -72,7 +72,7 @@ by_caller_grown Session t P Q x y each h = absurd h
 
 event_grown : (f g : ℕ → ℕ → Option PlainCall) (counts : List ℕ) (t : Terminal) (who : Who) (step part : ℕ)
     (event : PlainEvent)
-    → Grows f g
+    → KnowsMore f g
     → IsAllowed f counts t who step part event
     → IsAllowed g counts t who step part event
     × (after_event g t who step part event ≡ after_event f t who step part event)
@@ -113,7 +113,7 @@ event_grown f g counts t who step part phase_ended grows h = (h, refl)
 event_grown f g counts t who step part (hung_up dropped) grows h = (h, refl)
 
 pub after_grown : (f g : ℕ → ℕ → Option PlainCall) (counts : List ℕ) (t : Terminal) (e : PlainEntry)
-    → Grows f g
+    → KnowsMore f g
     → Allowed f counts t e
     → Allowed g counts t e × (after g t e ≡ after f t e)
 after_grown f g counts t e grows h =
@@ -122,7 +122,7 @@ after_grown f g counts t e grows h =
 
 pub leads_grown : (f g : ℕ → ℕ → Option PlainCall) (counts : List ℕ) (t : Terminal) (es : List PlainEntry)
     (u : Terminal)
-    → Grows f g
+    → KnowsMore f g
     → Leads f counts t es u
     → Leads g counts t es u
 leads_grown f g counts t [] u grows h = h

@@ -1,6 +1,6 @@
 -- What calls through a live handle come to.
 use Rattle.std.proofs.Common.{◌≡◌, ℕ, Bool, true, false, not, Option, None}
-use Rattle.std.proofs.Common.{Some, if◌then◌else◌, refl, sym, ◌∙◌, ap, subst}
+use Rattle.std.proofs.Common.{Some, if◌then◌else◌, refl, sym, subst}
 use Rattle.std.specs.Option.{is_some}
 use Rattle.std.proofs.lemmas.Bool.{false≢true}
 use Rattle.handle_table.specs.declared.HandleState.{HandleState}

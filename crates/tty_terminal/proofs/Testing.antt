@@ -3,6 +3,7 @@ use Rattle.std.proofs.Common.{◌≡◌, ℕ, ◌+◌, ◌-◌, ◌<◌, ◌≤�
 use Rattle.std.proofs.Common.{◌==◌, nat_lt, nat_le, Option, None, Some, is_some, length, refl, sym, arith}
 use Rattle.std.proofs.lemmas.Bool.{and_parts, eqb-true, false≢true}
 use Rattle.std.proofs.lemmas.Bool.Decides.{nat_tests}
+use Rattle.tty_base.specs.Sizes.{PIECE}
 use Rattle.tty_base.specs.declared.characters.Flagged.{Flagged}
 use Rattle.tty_calls.specs.declared.journals.Who.{Who}
 use Rattle.tty_calls.specs.declared.journals.Who.TheVariants.{Caller, Flusher, Line, Clock, Session}
@@ -69,7 +70,7 @@ accepts_all t (c ∷ cs) = accepts t && accepts_all (after_character t c) cs
 
 abbrev flush_tests : Terminal → (run part : ℕ) → List Flagged → List Bool
 flush_tests t run part chars =
-    nat_lt 0 (live_count t) ∷ nat_lt 0 (length chars) ∷ nat_le (length chars) 64 ∷ accepts_all t chars
+    nat_lt 0 (live_count t) ∷ nat_lt 0 (length chars) ∷ nat_le (length chars) PIECE ∷ accepts_all t chars
     ∷ follows t.flushed run part
     ∷ implies t.line_over (nat_le (t.taken + length chars) t.sent) ∷ []
 

@@ -1,7 +1,7 @@
 -- What the code answers of an outcome, and the room that it needs.
 use Rattle.std.specs.Prelude.{◌≡◌, ◌<◌, ◌≤◌, ◌==◌, ◌+◌, ◌-◌, ◌*◌, ◌^◌, min, ℕ, List, [], Option, None}
 use Rattle.std.specs.Prelude.{Some, Bool, true, false, nat_lt, if◌then◌else◌, length, option_map}
-use Rattle.tty_base.specs.Sizes.{COUNT_END, MOST_HELD, PIECE}
+use Rattle.tty_base.specs.Sizes.{COLUMNS_OF_PIECE, COUNT_END, MOST_HANDLES, MOST_HELD, NUMBER_END, PIECE}
 use Rattle.tty_base.specs.Contents.{Contents}
 use Rattle.tty_base.specs.declared.counters.Counts.{Counts}
 use Rattle.tty_calls.specs.Plain.{PlainCall, opens, closes, reads, writes, gets_modes, sets_modes, gets_disc}
@@ -190,20 +190,20 @@ IsCounted s call = s.taken + min PIECE (byte_count call - s.taken) < 2 ^ 32
 -- what a call needs, where its caller stands so: a handle's number in the table, bytes that it can count, what was made
 -- for it, and room for whatever it may send
 pub record CanAct (v : InRoom) (s : CallerState) (call : PlainCall) (made : Room) : Type 0 where
-  pub number : handle_of call < 32
+  pub number : handle_of call < MOST_HANDLES
   pub bytes : IsCounted s call
-  pub few : v.terminal.generation < 2 ^ 31
+  pub few : v.terminal.generation < NUMBER_END
   pub room : IsRoomFor v.terminal call made
   pub wire : ROOM_FOR_CALL ≤ v.wire_room
   pub column : column_in v.terminal.disc < COUNT_END
 
 -- a call met its outcome, without the rule for ixoff after it; and how much room on the wire, and how many columns,
--- it took; each byte of a piece moves the column by 64 at most
+-- it took; a piece moves the column by so much at most
 pub record Acts (old new : InRoom) (s : CallerState) (call : PlainCall) (result : Met) : Type 0 where
   pub met : Meets (outcome old.terminal s call) result
   pub left : new.terminal ≡ left_before_rule (outcome old.terminal s call) old.terminal
   pub wire : old.wire_room ≤ new.wire_room + MOST_HELD
-  pub column : column_in new.terminal.disc ≤ column_in old.terminal.disc + 64 * PIECE
+  pub column : column_in new.terminal.disc ≤ column_in old.terminal.disc + COLUMNS_OF_PIECE
 
 -- whether a call needs anything beside the terminal
 abbrev pub needs_room : PlainCall → Bool

@@ -111,8 +111,8 @@ phase_after phase_ended phase = phase + 1
 phase_after (hung_up dropped) phase = phase
 
 -- each call that the one knows the other knows too
-abbrev pub Grows : (ℕ → ℕ → Option PlainCall) → (ℕ → ℕ → Option PlainCall) → Type 0
-Grows f g = (c step : ℕ) (call : PlainCall) → f c step ≡ Some call → g c step ≡ Some call
+abbrev pub KnowsMore : (ℕ → ℕ → Option PlainCall) → (ℕ → ℕ → Option PlainCall) → Type 0
+KnowsMore f g = (c step : ℕ) (call : PlainCall) → f c step ≡ Some call → g c step ≡ Some call
 
 -- two functions of calls agree on an entry: where it is one of a call, the call is the same
 abbrev pub AgreesAt : (ℕ → ℕ → Option PlainCall) → (ℕ → ℕ → Option PlainCall) → Who → ℕ → PlainEvent → Type 0

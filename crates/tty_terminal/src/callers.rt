@@ -3,8 +3,8 @@
 ghost use Rattle.std.specs.Prelude.{◌≡◌, ◌<◌, IfOk, length, map, count_by};
 ghost use Rattle.std.specs.Prelude.{is_some, replicate, slice_index_or, slice_set};
 ghost use Rattle.tty_terminal.specs.Terminals.{idle_caller, is_over, is_resting, has_begun};
-ghost use Rattle.tty_terminal.specs.Generations.{closed_handle as handle_after_close, bound_after_close};
-ghost use Rattle.tty_terminal.specs.Generations.{caller_after_close, bound_after_hangup, caller_after_hangup};
+ghost use Rattle.tty_terminal.specs.Generations.{closed_handle as handle_after_close};
+ghost use Rattle.tty_terminal.specs.Generations.{caller_after_close, caller_after_hangup};
 ghost use Rattle.tty_terminal.specs.Steps.{caller_after_phase};
 ghost use Rattle.handle_table.specs.Handles.{handle_after_hangup};
 

@@ -23,7 +23,7 @@ ghost use Rattle.tty_terminal.specs.Meeting.{drops_of};
 ghost use Rattle.tty_terminal.specs.Questions.{call_drops, is_purge, IsPurged};
 ghost use Rattle.tty_terminal.specs.Calls.{outcome};
 ghost use Rattle.tty_terminal.specs.Steps.{Allowed, after, TakesPart};
-ghost use Rattle.tty_terminal.specs.Runs.{IsRun, Grows, AgreesOn, OneGeneration};
+ghost use Rattle.tty_terminal.specs.Runs.{IsRun, KnowsMore, AgreesOn, OneGeneration};
 ghost use Rattle.tty_terminal.specs.Runs.{GoesOnInGeneration, is_flush, RunHas, chars_of};
 ghost use Rattle.tty_terminal.specs.Standing.{standing_of, standing_in, at_first};
 ghost use Rattle.tty_terminal.specs.Marks.{marks_of, marks_after, marks_in, no_marks};
@@ -88,7 +88,7 @@ pub fn own_entries_tell()
 /// A run is a run also where more calls are known.
 pub fn more_calls_keep_a_run()
     ensures { (f g : ℕ → ℕ → Option PlainCall) (counts : List ℕ) (capacity : ℕ) (es : List PlainEntry) (u : Terminal) →
-        Grows f g → IsRun f counts capacity es u → IsRun g counts capacity es u }
+        KnowsMore f g → IsRun f counts capacity es u → IsRun g counts capacity es u }
 {}
 
 /// A run stays in one generation, flush run by flush run and call by call, as one entry more is made

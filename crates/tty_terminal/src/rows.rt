@@ -1,6 +1,6 @@
 //! Worked journals: runs, and with one word changed none.
 
-ghost use Rattle.std.specs.Prelude.{◌≡◌, [], ◌∷◌, length, replicate};
+ghost use Rattle.std.specs.Prelude.{◌≡◌, [], ◌∷◌, length};
 ghost use Rattle.tty_base.specs.declared.counters.Errno.{Errno};
 ghost use Rattle.tty_calls.specs.Plain.{done, count_is, got, refused};
 ghost use Rattle.tty_terminal.specs.Terminals.{Terminal, opening};

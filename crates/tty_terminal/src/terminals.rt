@@ -1,9 +1,10 @@
 //! The one-thread terminal: what characters, calls, the line, the clock and a hangup do to it, and what can be asked
 //! of it.
 
-ghost use Rattle.std.specs.Prelude.{◌≡◌, ◌↔◌, ℕ, Some, true, false, ◌+◌, ◌*◌, ◌-◌, ◌≤◌};
-ghost use Rattle.std.specs.Prelude.{◌<◌, ◌^◌, IsTrue, IfOk, OnOk, length, take, drop};
-ghost use Rattle.tty_base.specs.Sizes.{COUNT_END, MOST_FLIP, PIECE};
+ghost use Rattle.std.specs.Prelude.{◌≡◌, ◌↔◌, Some, true, false, ◌+◌, ◌*◌, ◌-◌, ◌≤◌};
+ghost use Rattle.std.specs.Prelude.{◌<◌, ◌^◌, IsTrue, IfOk, OnOk, length, take};
+ghost use Rattle.tty_base.specs.Sizes.{COLUMNS_OF_CHARACTER, COLUMNS_OF_PIECE, COUNT_END, MOST_FLIP, MOST_HANDLES};
+ghost use Rattle.tty_base.specs.Sizes.{MOST_SENT, NUMBER_END};
 ghost use Rattle.tty_calls.specs.Plain.{handle_of, call_of};
 ghost use Rattle.ldisc_switch.specs.Disciplines.{fresh_of, column_in};
 ghost use Rattle.ldisc_switch.specs.declared.kinds.Kind.{Kind};
@@ -61,7 +62,7 @@ impl Model for Terminal {
 }
 
 impl Terminal {
-    ghost use Rattle.tty_terminal.specs.Terminals.{opening, handle_at, handle_for, caller_at, live_count as live};
+    ghost use Rattle.tty_terminal.specs.Terminals.{opening, caller_at, live_count as live};
     ghost use Rattle.tty_terminal.specs.Receiving.{accepts, after_characters, AcceptsAll, after_ixoff};
     ghost use Rattle.tty_terminal.specs.Generations.{after_hangup};
     ghost use Rattle.tty_terminal.specs.Calls.{outcome};
@@ -124,16 +125,16 @@ impl Terminal {
 
     /// The discipline receives characters from the front, as long as it accepts. Answers how many.
     pub fn receive_all(&mut self, chars: &[Flagged]) -> usize
-        requires taken { self.old.terminal.taken + length chars.now < 2 ^ 63 }
+        requires taken { self.old.terminal.taken + length chars.now < MOST_SENT }
         requires wire { room_for_characters self.old.terminal (length chars.now) ≤ self.old.wire_room }
         requires signals { length chars.now ≤ self.old.signal_room }
-        requires column { column_in self.old.terminal.disc + 2 ^ 22 * length chars.now < COUNT_END }
+        requires column { column_in self.old.terminal.disc + COLUMNS_OF_CHARACTER * length chars.now < COUNT_END }
         ensures within { result ≤ length chars.now }
         ensures received { self.new.terminal ≡ after_characters self.old.terminal (take result chars.now) }
         ensures accepted { AcceptsAll self.old.terminal (take result chars.now) }
         ensures stops { result < length chars.now → accepts self.new.terminal ≡ false }
         ensures column { column_in self.new.terminal.disc
-            ≤ column_in self.old.terminal.disc + 2 ^ 22 * length chars.now }
+            ≤ column_in self.old.terminal.disc + COLUMNS_OF_CHARACTER * length chars.now }
     {
         let count = self.disc.receive_all(
             chars,
@@ -179,9 +180,9 @@ impl Terminal {
     #[inline(always)]
     pub fn meet(&mut self, caller: u16, call: &Call, room: Room) -> Met
         requires known { caller < length self.old.terminal.callers }
-        requires number { handle_of (call_of call.now) < 32 }
+        requires number { handle_of (call_of call.now) < MOST_HANDLES }
         requires bytes { byte_count (call_of call.now) < 2 ^ 32 }
-        requires few { self.old.terminal.generation < 2 ^ 31 }
+        requires few { self.old.terminal.generation < NUMBER_END }
         requires room { IsRoomFor self.old.terminal (call_of call.now) room }
         requires wire { ROOM_FOR_CALL ≤ self.old.wire_room }
         requires column { column_in self.old.terminal.disc < COUNT_END }
@@ -189,7 +190,7 @@ impl Terminal {
         ensures left { self.new.terminal
             ≡ left_by (outcome self.old.terminal (caller_at self.old.terminal caller) (call_of call.now))
             self.old.terminal }
-        ensures column { column_in self.new.terminal.disc ≤ column_in self.old.terminal.disc + 64 * PIECE }
+        ensures column { column_in self.new.terminal.disc ≤ column_in self.old.terminal.disc + COLUMNS_OF_PIECE }
     {
         let state = self.callers.get(caller as usize);
         self.meet_from(&state, call, room)
@@ -198,16 +199,16 @@ impl Terminal {
     /// Likewise a call whose caller stands so, wherever that is kept.
     #[inline(always)]
     pub fn meet_from(&mut self, state: &CallerState, call: &Call, mut room: Room) -> Met
-        requires number { handle_of (call_of call.now) < 32 }
+        requires number { handle_of (call_of call.now) < MOST_HANDLES }
         requires bytes { IsCounted state.now (call_of call.now) }
-        requires few { self.old.terminal.generation < 2 ^ 31 }
+        requires few { self.old.terminal.generation < NUMBER_END }
         requires room { IsRoomFor self.old.terminal (call_of call.now) room }
         requires wire { ROOM_FOR_CALL ≤ self.old.wire_room }
         requires column { column_in self.old.terminal.disc < COUNT_END }
         ensures met { Meets (outcome self.old.terminal state.now (call_of call.now)) result }
         ensures left { self.new.terminal
             ≡ left_by (outcome self.old.terminal state.now (call_of call.now)) self.old.terminal }
-        ensures column { column_in self.new.terminal.disc ≤ column_in self.old.terminal.disc + 64 * PIECE }
+        ensures column { column_in self.new.terminal.disc ≤ column_in self.old.terminal.disc + COLUMNS_OF_PIECE }
     {
         let met = self.act(state, call, &mut room);
         if let Met::Gives(_) = &met {
@@ -227,7 +228,7 @@ impl Terminal {
     /// The caller's call is answered.
     pub fn advance(&mut self, caller: u16)
         requires known { caller < length self.old.terminal.callers }
-        requires few { (caller_at self.old.terminal caller).next < 2 ^ 31 }
+        requires few { (caller_at self.old.terminal caller).next < NUMBER_END }
         ensures { self.new ≡ record self.old { terminal = after_answer self.old.terminal caller } }
     {
         let state = self.callers.get(caller as usize);
@@ -257,7 +258,7 @@ impl Terminal {
     /// The caller's call on the handle `h` waits from now on.
     pub fn wait(&mut self, caller: u16, h: u8)
         requires known { caller < length self.old.terminal.callers }
-        requires number { h < 32 }
+        requires number { h < MOST_HANDLES }
         ensures { self.new ≡ record self.old { terminal = after_wait self.old.terminal caller h } }
     {
         let state = self.callers.get(caller as usize);
@@ -277,8 +278,8 @@ impl Terminal {
     /// before that part.
     pub fn note_part(&mut self, caller: u16, h: u8, count: u32)
         requires known { caller < length self.old.terminal.callers }
-        requires number { h < 32 }
-        requires parts { (caller_at self.old.terminal caller).parts < 2 ^ 31 }
+        requires number { h < MOST_HANDLES }
+        requires parts { (caller_at self.old.terminal caller).parts < NUMBER_END }
         requires bytes { (caller_at self.old.terminal caller).taken + count < 2 ^ 32 }
         ensures { self.new ≡ record self.old { terminal = after_part self.old.terminal caller h count } }
     {
@@ -345,7 +346,7 @@ impl Terminal {
 
     /// The next phase begins.
     pub fn begin_phase(&mut self)
-        requires { self.old.terminal.phase < 2 ^ 31 }
+        requires { self.old.terminal.phase < NUMBER_END }
         ensures { self.new ≡ record self.old { terminal = next_phase self.old.terminal } }
     {
         self.phase += 1;
@@ -356,7 +357,7 @@ impl Terminal {
 
     /// The port is hung up: N_TTY stands anew, as it was made for it.
     pub fn hang_up(&mut self, fresh: Disc)
-        requires few { self.old.terminal.generation < 2 ^ 31 }
+        requires few { self.old.terminal.generation < NUMBER_END }
         requires fresh { fresh ≡ fresh_of Kind.Tty }
         ensures { self.new ≡ record self.old { terminal = after_hangup self.old.terminal } }
     {

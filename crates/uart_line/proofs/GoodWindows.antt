@@ -16,7 +16,7 @@ use Rattle.uart_line.specs.Handler.{after_line_step, IsReadOff, Serves}
 use Rattle.uart_line.specs.Offered.{HandsOver}
 use Rattle.tty_base.specs.Characters.{good_character, good_characters}
 use Rattle.uart_line.specs.GoodSteps.{good_steps}
-use Rattle.uart_line.specs.WholeWindow.{IsOpen, IsHandedOver}
+use Rattle.uart_line.specs.WholeWindow.{TakesWindow, IsHandedOver}
 use Rattle.uart_line.proofs.Serving.{Serves-all}
 use Rattle.uart_line.proofs.Steps.{cut_after, received_list-step, waiting_list-step}
 use Rattle.uart_line.proofs.Steps.{HasDone-uncut, HasDone-cut, HandsOver-cut}
@@ -183,7 +183,7 @@ empty_of [] h = refl
 empty_of (x ∷ xs) h = absurd (omega arith)
 
 -- the first `n` of these bytes make a window
-module _ (line : LineState) (bytes : List ℕ) (n : ℕ) (within : n ≤ length bytes) (opens : IsOpen line n)
+module _ (line : LineState) (bytes : List ℕ) (n : ℕ) (within : n ≤ length bytes) (opens : TakesWindow line n)
     (before : List LineStep) (d : HasDone line before) where
   none_waits : waiting_list before ≡ []
   none_waits = empty_of (waiting_list before) (sym d.stands.window ∙ opens.none_waits)
@@ -295,14 +295,14 @@ module _ (line : LineState) (bytes : List ℕ) (n : ℕ) (within : n ≤ length 
 -- ---- a whole window, of which each is accepted
 
 -- the line once so many more have arrived, and each was accepted
-abbrev with_accepted : LineState → ℕ → LineState
-with_accepted line n = record line {
+abbrev with_appended : LineState → ℕ → LineState
+with_appended line n = record line {
   handed = line.handed + n;
   report = record line.report { arrived = line.report.arrived + n; sent = line.report.sent + n };
 }
 
-module _ (line new : LineState) (bytes : List ℕ) (opens : IsOpen line (length bytes))
-    (now : new ≡ with_accepted line (length bytes)) where
+module _ (line new : LineState) (bytes : List ℕ) (opens : TakesWindow line (length bytes))
+    (now : new ≡ with_appended line (length bytes)) where
   abbrev n : ℕ
   n = length bytes
 

@@ -4,35 +4,35 @@ use Rattle.std.specs.List.{list_any}
 use Rattle.tty_base.specs.declared.characters.Flagged.{Flagged}
 use Rattle.tty_base.specs.declared.lines.Overrun.{Overrun}
 
--- the answer to one character: accepted, or refused with the head that this call loaded
+-- the answer to one character: appended, or refused with the head that this call loaded
 pub data PutAnswer : Type 0 where
-  accepts : PutAnswer
+  appends : PutAnswer
   refuses : ℕ → PutAnswer
 
--- the characters that were accepted
-unfoldable pub accepted_list : List Flagged → List PutAnswer → List Flagged
-accepted_list [] _ = []
-accepted_list (c ∷ cs) [] = []
-accepted_list (c ∷ cs) (accepts ∷ answers) = c ∷ accepted_list cs answers
-accepted_list (c ∷ cs) (refuses _ ∷ answers) = accepted_list cs answers
+-- the characters that were appended
+unfoldable pub appended_list : List Flagged → List PutAnswer → List Flagged
+appended_list [] _ = []
+appended_list (c ∷ cs) [] = []
+appended_list (c ∷ cs) (appends ∷ answers) = c ∷ appended_list cs answers
+appended_list (c ∷ cs) (refuses _ ∷ answers) = appended_list cs answers
 
--- each refusal is one overrun: its place, how many were accepted before, and the head
+-- each refusal is one overrun: its place, how many were appended before, and the head
 unfoldable pub overrun_list : (place sent : ℕ) → List PutAnswer → List Overrun
 overrun_list place sent [] = []
-overrun_list place sent (accepts ∷ answers) = overrun_list (place + 1) (sent + 1) answers
+overrun_list place sent (appends ∷ answers) = overrun_list (place + 1) (sent + 1) answers
 overrun_list place sent (refuses seen ∷ answers) =
     record { at = place; sent = sent; seen = seen } ∷ overrun_list (place + 1) sent answers
 
 -- each refusal comes at a full buffer
 unfoldable pub IsFullAt : (capacity sent : ℕ) → List PutAnswer → Type 0
 IsFullAt capacity sent [] = Unit {0}
-IsFullAt capacity sent (accepts ∷ answers) = IsFullAt capacity (sent + 1) answers
+IsFullAt capacity sent (appends ∷ answers) = IsFullAt capacity (sent + 1) answers
 IsFullAt capacity sent (refuses seen ∷ answers) = (sent ≡ seen + capacity) × IsFullAt capacity sent answers
 
 -- the heads of the refusals are among the heads loaded, in their order
 unfoldable pub AreAmong : List PutAnswer → List ℕ → Type 0
 AreAmong [] heads = Unit {0}
-AreAmong (accepts ∷ answers) heads = AreAmong answers heads
+AreAmong (appends ∷ answers) heads = AreAmong answers heads
 AreAmong (refuses seen ∷ answers) heads =
     (before after : List ℕ) × (heads ≡ before ++ seen ∷ after) × AreAmong answers after
 
@@ -45,7 +45,7 @@ pub record Offers
   pub answers : List PutAnswer
   pub loaded : List ℕ
   pub one_each : length answers ≡ length list
-  pub accepts_rest : sent' ≡ sent ++ accepted_list list answers
+  pub appends_rest : sent' ≡ sent ++ appended_list list answers
   pub adds_refused : overruns' ≡ overruns ++ overrun_list place (length sent) answers
   pub is_full : IsFullAt capacity (length sent) answers
   pub loads : heads' ≡ heads ++ loaded
@@ -61,7 +61,7 @@ pub record HandsOver
   pub offers : Offers capacity (length all) list sent sent' heads heads' overruns overruns'
 
 -- the list handed over has grown from `all` to `all'`, and the plain list `items` by the same characters
-pub record Adds (all all' items items' : List Flagged) : Type 0 where
+pub record AddsCharacters (all all' items items' : List Flagged) : Type 0 where
   pub list : List Flagged
   pub grows : all' ≡ all ++ list
   pub adds : items' ≡ items ++ list

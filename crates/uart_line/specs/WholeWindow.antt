@@ -3,7 +3,7 @@ use Rattle.std.specs.Prelude.{◌≡◌, ℕ, ◌≤◌, false}
 use Rattle.uart_line.specs.LineState.{LineState}
 
 -- nothing waits, the handler is not masked, and so many characters make a window
-pub record IsOpen (line : LineState) (count : ℕ) : Type 0 where
+pub record TakesWindow (line : LineState) (count : ℕ) : Type 0 where
   pub is_trigger : count ≡ line.registers.trigger
   pub some : 1 ≤ count
   pub few : count ≤ 14

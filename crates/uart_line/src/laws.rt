@@ -4,8 +4,8 @@ ghost use Rattle.tty_base.specs.declared.characters.Flagged.{Flagged};
 ghost use Rattle.tty_base.specs.declared.lines.Overrun.{Overrun};
 ghost use Rattle.uart_line.specs.Offered.{HandsOver, kept_list, AreShown};
 
-/// What was accepted is what was handed over without the places of the overruns. These rise, and each
-/// tells how many were accepted before it and that the buffer was full.
+/// What was appended is what was handed over without the places of the overruns. These rise, and each
+/// tells how many were appended before it and that the buffer was full.
 pub fn overruns_are_shown()
     ensures kept { (capacity : ℕ) (all sent : List Flagged) (heads : List ℕ) (overruns : List Overrun)
         → HandsOver capacity [] all [] sent [] heads [] overruns → sent ≡ kept_list all overruns }

@@ -2,7 +2,7 @@
 //! over what was received.
 #![tactic(auto)]
 
-ghost use Rattle.std.specs.Prelude.{◌≡◌, ◌≢◌, ℕ, ◌+◌, ◌-◌, ◌<◌, ◌≤◌, List, [], ◌∷◌};
+ghost use Rattle.std.specs.Prelude.{◌≡◌, ◌≢◌, ◌+◌, ◌-◌, ◌<◌, ◌≤◌, List, [], ◌∷◌};
 ghost use Rattle.std.specs.Prelude.{◌++◌, length, IsTrue, IfOk, MatchBool, false};
 ghost use Rattle.std.proofs.Common.{◌⊎◌};
 ghost use Rattle.std.specs.List.{All};
@@ -68,7 +68,7 @@ impl Line {
     ghost use Rattle.uart_line.specs.Received.{received_list, waiting_list, closed_script};
     ghost use Rattle.tty_base.specs.Lines.{arrival, arrival_count};
     ghost use Rattle.uart_line.specs.LineState.{HasDone};
-    ghost use Rattle.uart_line.specs.Offered.{Offers, HandsOver, Adds};
+    ghost use Rattle.uart_line.specs.Offered.{Offers, HandsOver, AddsCharacters};
     ghost use Rattle.uart_line.specs.Handler.{IsLine, after_line_step, runs_handler};
     ghost use Rattle.uart_line.specs.Handler.{reading_of, after_turn, with_mark, Serves};
 
@@ -176,7 +176,7 @@ impl Line {
         ensures whole { (before : List LineStep) → waiting_list (before ++ closed_script steps.now) ≡ [] }
         ensures adds { (before : List LineStep)
             → HasDone self.old before
-            → Adds (received_list before) (received_list (before ++ closed_script steps.now))
+            → AddsCharacters (received_list before) (received_list (before ++ closed_script steps.now))
             chars.old.items chars.new.items }
         ensures spare { self.new.most ≤ chars.new.spare + self.new.handed }
         ensures overruns { (before : List LineStep) → HasDone self.old before

@@ -8,7 +8,7 @@ ghost use Rattle.uart_line.specs.LineState.{HasDone, IsUncut};
 ghost use Rattle.uart_line.specs.Offered.{HandsOver};
 ghost use Rattle.tty_base.specs.Characters.{good_characters};
 ghost use Rattle.uart_line.specs.GoodSteps.{good_steps};
-ghost use Rattle.uart_line.specs.WholeWindow.{IsOpen};
+ghost use Rattle.uart_line.specs.WholeWindow.{TakesWindow};
 ghost use Rattle.uart_regs.specs.Registers.{bit};
 
 use super::Line;
@@ -19,7 +19,7 @@ impl Line {
     #[inline(always)]
     pub fn whole_window(&self, coming: usize) -> Option<usize>
         ensures within { IfSome result (λ count. count ≤ coming) }
-        ensures open { IfSome result (λ count. IsOpen self.now count) }
+        ensures open { IfSome result (λ count. TakesWindow self.now count) }
     {
         let count = usize::from(self.uart.trigger());
         if self.masked || self.window > 0 || coming < count {
@@ -29,10 +29,10 @@ impl Line {
     }
 
     /// Does the steps in which the good characters of a whole window arrive, at the last of which the
-    /// handler runs. Each is accepted, wherever the caller puts them.
+    /// handler runs. Each is appended, wherever the caller puts them.
     #[inline(always)]
-    pub fn accept_window(&mut self, bytes: &[u8])
-        requires open { IsOpen self.old (length bytes.now) }
+    pub fn receive_window(&mut self, bytes: &[u8])
+        requires open { TakesWindow self.old (length bytes.now) }
         requires room { self.old.report.arrived + length bytes.now ≤ self.old.most }
         ensures done { (before : List LineStep)
             → HasDone self.old before
@@ -54,12 +54,12 @@ impl Line {
     {
         let count = bytes.len();
         self.report.arrived += count as u32;
-        self.count_accepted(count);
+        self.count_appended(count);
     }
 
-    /// So many were accepted.
+    /// So many were appended.
     #[inline(always)]
-    fn count_accepted(&mut self, count: usize)
+    fn count_appended(&mut self, count: usize)
         requires { self.old.handed + length self.old.registers.fifo + bit self.old.registers.overrun + count
             ≤ self.old.report.arrived }
         ensures { self.new

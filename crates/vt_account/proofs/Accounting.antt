@@ -12,8 +12,8 @@ use Rattle.vt_text.specs.declared.sessions.OpCall.{OpCall}
 use Rattle.vt_text.specs.declared.sessions.OpCall.TheVariants as op
 use Rattle.vt_text.specs.Sessions.{PlainOperator, PlainVtPhase, PlainVtSession}
 use Rattle.vt_account.specs.Seats.{operator_names}
-use Rattle.vt_account.specs.Account.{accepted, is_seat, call_in, index_in, calls_by}
-use Rattle.vt_account.specs.Account.{indexes_by, IsPartOf, HasParts, IsAccount}
+use Rattle.vt_account.specs.Account.{granted, is_seat, call_in, index_in, calls_by}
+use Rattle.vt_account.specs.Account.{indexes_by, IsPhasePart, HasParts, IsAccount}
 use Rattle.vt_account.specs.InOrder.{active_behind, key_entries, event_of, call_entries, entries_at, operator_entries}
 use Rattle.vt_account.specs.InOrder.{operators_entries, phase_entries, entries_from, entries_in_order}
 
@@ -83,20 +83,20 @@ indexes_of_calls seat at active (call ∷ calls) =
 
 calls_of_operator : (seat consoles active : ℕ) (number : Option ℕ) (calls : List OpCall)
     → calls_by seat (entries_at consoles active (option_to_list number) calls)
-    ≡ flat_map (accepted consoles) (if is_seat number seat then calls else [])
+    ≡ flat_map (granted consoles) (if is_seat number seat then calls else [])
 calls_of_operator seat consoles active None calls = refl
 calls_of_operator seat consoles active (Some n) calls =
-    calls_of_calls seat n active (flat_map (accepted consoles) calls) ∙ chosen (accepted consoles) (n == seat) calls
+    calls_of_calls seat n active (flat_map (granted consoles) calls) ∙ chosen (granted consoles) (n == seat) calls
 
 indexes_of_operator : (seat consoles active : ℕ) (number : Option ℕ) (calls : List OpCall)
     → indexes_by seat (entries_at consoles active (option_to_list number) calls) ≡ []
 indexes_of_operator seat consoles active None calls = refl
 indexes_of_operator seat consoles active (Some n) calls =
-    indexes_of_calls seat n active (flat_map (accepted consoles) calls)
+    indexes_of_calls seat n active (flat_map (granted consoles) calls)
 
 calls_of_operators : (seat consoles active : ℕ) (names : List (List ℕ)) (operators : List PlainOperator)
     → calls_by seat (operators_entries names consoles active operators)
-    ≡ flat_map (accepted consoles)
+    ≡ flat_map (granted consoles)
     (flat_map (λ operator. if is_seat (number_in names operator.name) seat then operator.calls else []) operators)
 calls_of_operators seat consoles active names [] = refl
 calls_of_operators seat consoles active names (operator ∷ operators) =
@@ -110,9 +110,9 @@ calls_of_operators seat consoles active names (operator ∷ operators) =
     ∙ ap
     (λ (l : List OpCall). l ++ calls_by seat (operators_entries names consoles (active_behind active front) operators))
     (calls_of_operator seat consoles active (number_in names operator.name) operator.calls)
-    ∙ ap (λ (l : List OpCall). flat_map (accepted consoles) asked ++ l)
+    ∙ ap (λ (l : List OpCall). flat_map (granted consoles) asked ++ l)
     (calls_of_operators seat consoles (active_behind active front) names operators)
-    ∙ sym (flat_map-append (accepted consoles) asked others)
+    ∙ sym (flat_map-append (granted consoles) asked others)
 
 indexes_of_operators : (seat consoles active : ℕ) (names : List (List ℕ)) (operators : List PlainOperator)
     → indexes_by seat (operators_entries names consoles active operators) ≡ []
@@ -129,7 +129,7 @@ indexes_of_operators seat consoles active names (operator ∷ operators) =
 -- ---- phases
 
 part_is : (session : PlainVtSession) (active first : ℕ) (phase : PlainVtPhase)
-    → IsPartOf session phase first
+    → IsPhasePart session phase first
     (phase_entries (operator_names session.phases) session.calls.ports active first phase)
 part_is session active first phase =
     let names = operator_names session.phases in
@@ -188,14 +188,14 @@ less_from n m h = grind (arith, nat_tests)
 
 right_activation : (consoles seat active n : ℕ) (calls : List OpCall) (b : Bool)
     → nat_lt n consoles ≡ b
-    → ((now : ℕ) → NameRightly consoles now (call_entries seat now (flat_map (accepted consoles) calls)))
+    → ((now : ℕ) → NameRightly consoles now (call_entries seat now (flat_map (granted consoles) calls)))
     → NameRightly consoles active
-    (call_entries seat active ((if b then op.Activate n ∷ [] else []) ++ flat_map (accepted consoles) calls))
+    (call_entries seat active ((if b then op.Activate n ∷ [] else []) ++ flat_map (granted consoles) calls))
 right_activation consoles seat active n calls true h rest = (less_from n consoles h, rest n)
 right_activation consoles seat active n calls false h rest = rest active
 
 right_calls : (consoles seat active : ℕ) (calls : List OpCall)
-    → NameRightly consoles active (call_entries seat active (flat_map (accepted consoles) calls))
+    → NameRightly consoles active (call_entries seat active (flat_map (granted consoles) calls))
 right_calls consoles seat active [] = tt
 right_calls consoles seat active (op.Activate n ∷ calls) =
     right_activation consoles seat active n calls (nat_lt n consoles) refl (λ now. right_calls consoles seat now calls)

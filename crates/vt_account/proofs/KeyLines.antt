@@ -13,7 +13,7 @@ use Rattle.vt_text.specs.declared.sessions.OpCall.{OpCall}
 use Rattle.vt_text.specs.declared.sessions.OpCall.TheVariants as op
 use Rattle.vt_text.specs.Sessions.{PlainOperator, PlainVtPhase, PlainVtSession}
 use Rattle.vt_account.specs.Seats.{operator_names}
-use Rattle.vt_account.specs.Account.{accepted}
+use Rattle.vt_account.specs.Account.{granted}
 use Rattle.vt_account.specs.Keyed.{console_in, consoles_in, keys_to, key_line, keyed_phase, keyed_phases, keyed}
 use Rattle.vt_account.specs.InOrder.{active_behind, key_entries, event_of, call_entries, entries_at, operator_entries}
 use Rattle.vt_account.specs.InOrder.{operators_entries, phase_entries, entries_from, entries_in_order}
@@ -46,7 +46,7 @@ consoles_of_operator : (consoles active : ℕ) (seats : List ℕ) (calls : List 
     → consoles_in (entries_at consoles active seats calls) ≡ []
 consoles_of_operator consoles active [] calls = refl
 consoles_of_operator consoles active (seat ∷ seats) calls =
-    consoles_of_calls seat active (flat_map (accepted consoles) calls)
+    consoles_of_calls seat active (flat_map (granted consoles) calls)
 
 consoles_both : (xs ys : List VtEntry) → consoles_in (xs ++ ys) ≡ consoles_in xs ++ consoles_in ys
 consoles_both xs ys = flat_map-append (λ (e : VtEntry). console_in e.event) xs ys

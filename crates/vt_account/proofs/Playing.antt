@@ -1,10 +1,11 @@
 -- What adding entries to a board, one part after the other, comes to.
 use Rattle.std.proofs.Common.{◌≡◌, ℕ, suc, zero, ◌+◌, ◌-◌, ◌<◌, ◌≤◌, List, [], ◌∷◌, ◌++◌, length}
-use Rattle.std.proofs.Common.{map, take, drop, flat_map, refl, sym, ◌∙◌, ap, subst, arith}
+use Rattle.std.proofs.Common.{map, take, drop, refl, sym, ◌∙◌, ap, subst, arith}
 use Rattle.std.proofs.Common.{append_assoc, append-nil, length-append, drop-cons, add-one, get_or}
 use Rattle.std.specs.Prelude.{slice_index_or, slice_set}
 use Rattle.std.proofs.lemmas.List.{length-set, length-map, drop_all, take_all, drop-map, get_or-map, map-set}
 use Rattle.std.proofs.lemmas.List.Sums.{fold-append}
+use Rattle.tty_base.specs.Sizes.{MOST_ENTRIES}
 use Rattle.tty_calls.specs.declared.answers.Denied.{Denied}
 use Rattle.tty_calls.specs.declared.answers.Denied.TheVariants.{NoMemory, Full}
 use Rattle.tty_calls.specs.declared.sessions.Phase.{Phase}
@@ -12,18 +13,17 @@ use Rattle.tty_calls.specs.Sessions.{PlainPhase, phase_of}
 use Rattle.vt_consoles.specs.declared.entries.VtEntry.{VtEntry}
 use Rattle.vt_consoles.specs.declared.entries.VtEvent.{VtEvent}
 use Rattle.vt_consoles.specs.declared.entries.VtEvent.TheVariants.{Key}
-use Rattle.vt_consoles.specs.Boards.{BoardState, Adds, IsBoard, IsDenied, active_on}
+use Rattle.vt_consoles.specs.Boards.{BoardState, Adds, IsBoard, active_on}
 use Rattle.vt_consoles.specs.Runs.{active_after, active_of}
 use Rattle.vt_text.specs.declared.sessions.OpCall.{OpCall}
 use Rattle.vt_text.specs.declared.sessions.VtPhase.{VtPhase}
 use Rattle.vt_text.specs.Sessions.{PlainOperator, PlainVtPhase, PlainVtSession, vt_phase_of}
-use Rattle.vt_account.specs.Account.{accepted}
 use Rattle.vt_account.specs.InOrder.{active_behind, key_entries, event_of, call_entries, operator_entries}
 use Rattle.vt_account.specs.InOrder.{operators_entries, phase_entries, entries_from, entries_in_order, IsBoardDenied}
 use Rattle.vt_account.specs.Keyed.{all_keys}
 use Rattle.vt_account.specs.Seats.{operator_names}
 use Rattle.vt_account.specs.Played.{AddsAll, LacksRoom, HasLeft, key_lines, phases_in_order}
-use Rattle.vt_account.specs.Played.{HasPressed, HasCalled, HasOperated, HasPlayed}
+use Rattle.vt_account.specs.Played.{HasPressed, HasOperated, HasPlayed}
 use Rattle.vt_account.proofs.Accounting.{active_keys}
 
 -- ---- parts
@@ -70,10 +70,6 @@ left_none whole a b h = subst (λ (xs : List VtEntry). AddsAll xs a b) (sym (app
 
 -- ---- no room
 
-pub lacks_one : (e : VtEntry) (b : BoardState) (d : Denied) → IsDenied b d → LacksRoom (e ∷ []) b d
-lacks_one e b Full h = omega (arith, h)
-lacks_one e b NoMemory h = tt
-
 -- .. nor for more
 pub lacks_more : (xs ys : List VtEntry) (b : BoardState) (d : Denied) → LacksRoom xs b d → LacksRoom (xs ++ ys) b d
 lacks_more xs ys b Full h = omega (arith, h, length-append xs ys)
@@ -96,9 +92,6 @@ lacks_left : (whole xs left : List VtEntry) (a b : BoardState) (d : Denied)
 lacks_left whole xs left a b d h k =
     subst (λ (l : List VtEntry). LacksRoom l a d) h.all
     (lacks_behind h.done (xs ++ left) a b d h.adds (lacks_more xs left b d k))
-
-pub lacks_memory : (xs : List VtEntry) (b : BoardState) (d : Denied) → d ≡ NoMemory → LacksRoom xs b d
-lacks_memory xs b d e = subst (LacksRoom xs b) (sym e) tt
 
 -- ---- keys
 
@@ -139,20 +132,6 @@ calls_both seat active [] ys = refl
 calls_both seat active (call ∷ xs) ys =
     ap (λ (l : List VtEntry). record { seat = seat; event = event_of active call } ∷ l)
     (calls_both seat (active_after active (event_of active call)) xs ys)
-
--- a call more
-pub call_next : (whole : List VtEntry) (a b c : BoardState) (seat consoles : ℕ) (call : OpCall) (calls : List OpCall)
-    → HasLeft whole (call_entries seat (active_on b) (flat_map (accepted consoles) (call ∷ calls))) a b
-    → AddsAll (call_entries seat (active_on b) (accepted consoles call)) b c
-    → HasLeft whole (call_entries seat (active_on c) (flat_map (accepted consoles) calls)) a c
-call_next whole a b c seat consoles call calls h k =
-    let one = call_entries seat (active_on b) (accepted consoles call) in
-    let rest = flat_map (accepted consoles) calls in
-    let parts =
-    calls_both seat (active_on b) (accepted consoles call) rest
-    ∙ ap (λ (n : ℕ). one ++ call_entries seat n rest) (sym (active_then one b c k)) in
-    left_less whole one (call_entries seat (active_on c) rest) a b c
-    (subst (λ (l : List VtEntry). HasLeft whole l a b) parts h) k
 
 -- ---- operators and phases
 
@@ -225,56 +204,6 @@ pressed_all seat first count place a b le h =
     HasLeft (key_entries seat (active_on a) first count) (key_entries seat (active_on a) (first + place) n) a b)
     none h.left)
 
-pub pressed_lacks : (seat first count place : ℕ) (a b : BoardState) (d : Denied)
-    → place < count
-    → HasPressed seat first count place a b
-    → IsDenied b d
-    → LacksRoom (key_entries seat (active_on a) first count) a d
-pressed_lacks seat first count place a b d lt h denied =
-    let whole = key_entries seat (active_on a) first count in
-    let key : VtEntry = record { seat = seat; event = Key (first + place) (active_on a) } in
-    let more : count - place ≡ suc (count - (place + 1)) = omega (arith, lt) in
-    lacks_left whole (key ∷ []) (key_entries seat (active_on a) ((first + place) + 1) (count - (place + 1))) a b d
-    (subst (λ (n : ℕ). HasLeft whole (key_entries seat (active_on a) (first + place) n) a b) more h.left)
-    (lacks_one key b d denied)
-
-pub called_more : (seat place : ℕ) (calls : List OpCall) (call : OpCall) (a b c : BoardState)
-    → drop place calls ≡ call ∷ drop (place + 1) calls
-    → HasCalled seat calls place a b
-    → AddsAll (call_entries seat (active_on b) (accepted b.consoles call)) b c
-    → HasCalled seat calls (place + 1) a c
-called_more seat place calls call a b c next h k =
-    let whole = call_entries seat (active_on a) (flat_map (accepted a.consoles) calls) in
-    call_next whole a b c seat a.consoles call (drop (place + 1) calls)
-    (subst (λ (l : List OpCall). HasLeft whole (call_entries seat (active_on b) (flat_map (accepted a.consoles) l)) a b)
-    next h)
-    (subst (λ (n : ℕ). AddsAll (call_entries seat (active_on b) (accepted n call)) b c) h.adds.consoles k)
-
-pub called_all : (seat place : ℕ) (calls : List OpCall) (a b : BoardState)
-    → drop place calls ≡ []
-    → HasCalled seat calls place a b
-    → AddsAll (call_entries seat (active_on a) (flat_map (accepted a.consoles) calls)) a b
-called_all seat place calls a b none h =
-    let whole = call_entries seat (active_on a) (flat_map (accepted a.consoles) calls) in
-    left_none whole a b
-    (subst (λ (l : List OpCall). HasLeft whole (call_entries seat (active_on b) (flat_map (accepted a.consoles) l)) a b)
-    none h)
-
-pub called_lacks : (seat place : ℕ) (calls : List OpCall) (call : OpCall) (a b : BoardState) (d : Denied)
-    → drop place calls ≡ call ∷ drop (place + 1) calls
-    → HasCalled seat calls place a b
-    → LacksRoom (call_entries seat (active_on b) (accepted b.consoles call)) b d
-    → LacksRoom (call_entries seat (active_on a) (flat_map (accepted a.consoles) calls)) a d
-called_lacks seat place calls call a b d next h k =
-    let whole = call_entries seat (active_on a) (flat_map (accepted a.consoles) calls) in
-    let one = call_entries seat (active_on b) (accepted a.consoles call) in
-    let rest = flat_map (accepted a.consoles) (drop (place + 1) calls) in
-    lacks_left whole one (call_entries seat (active_behind (active_on b) one) rest) a b d
-    (subst (λ (l : List VtEntry). HasLeft whole l a b)
-    (ap (λ (l : List OpCall). call_entries seat (active_on b) (flat_map (accepted a.consoles) l)) next
-    ∙ calls_both seat (active_on b) (accepted a.consoles call) rest) h)
-    (subst (λ (n : ℕ). LacksRoom (call_entries seat (active_on b) (accepted n call)) b d) h.adds.consoles k)
-
 pub operated_more : (names : List (List ℕ)) (place : ℕ) (operators : List PlainOperator) (operator : PlainOperator)
     (a b c : BoardState)
     → drop place operators ≡ operator ∷ drop (place + 1) operators
@@ -286,15 +215,6 @@ operated_more names place operators operator a b c next h k =
     operator_next whole a b c names a.consoles operator (drop (place + 1) operators)
     (subst (λ (l : List PlainOperator). HasLeft whole (operators_entries names a.consoles (active_on b) l) a b) next h)
     (subst (λ (n : ℕ). AddsAll (operator_entries names n (active_on b) operator) b c) h.adds.consoles k)
-
-pub operated_all : (names : List (List ℕ)) (place : ℕ) (operators : List PlainOperator) (a b : BoardState)
-    → drop place operators ≡ []
-    → HasOperated names operators place a b
-    → AddsAll (operators_entries names a.consoles (active_on a) operators) a b
-operated_all names place operators a b none h =
-    let whole = operators_entries names a.consoles (active_on a) operators in
-    left_none whole a b
-    (subst (λ (l : List PlainOperator). HasLeft whole (operators_entries names a.consoles (active_on b) l) a b) none h)
 
 pub operated_lacks : (names : List (List ℕ)) (place : ℕ) (operators : List PlainOperator) (operator : PlainOperator)
     (a b : BoardState) (d : Denied)
@@ -311,16 +231,6 @@ operated_lacks names place operators operator a b d next h k =
     (subst (λ (n : ℕ). LacksRoom (operator_entries names n (active_on b) operator) b d) h.adds.consoles k)
 
 -- ---- phases
-
-pub played_first : (names : List (List ℕ)) (keyboards : List PlainVtPhase) (b : BoardState) (phases : List PlainPhase)
-    → length phases ≡ length keyboards
-    → HasPlayed names keyboards 0 0 b b phases phases
-played_first names keyboards b phases e = record {
-  left = left_first (entries_from names b.consoles (active_on b) 0 keyboards) b;
-  each = e;
-  same = refl;
-  counted = omega arith;
-}
 
 -- the item at a place, and those behind it
 next_item : {X : Type 0} (xs : List X) (i : ℕ) (x : X)
@@ -570,17 +480,17 @@ phase_lacks names keyboards x place first a b phases played d lt is_x k h =
 pub board_denied : (session : PlainVtSession) (names : List (List ℕ)) (board : BoardState)
     (keyboards : List PlainVtPhase) (d : Denied)
     → names ≡ operator_names session.phases
-    → board ≡ record { consoles = session.calls.ports; limit = 4194304; entries = [] }
+    → board ≡ record { consoles = session.calls.ports; limit = MOST_ENTRIES; entries = [] }
     → keyboards ≡ session.phases
     → LacksRoom (entries_from names board.consoles (active_on board) 0 keyboards) board d
     → IsBoardDenied session d
 board_denied session names board keyboards Full is_names is_board is_keyboards h =
     let here : LacksRoom (entries_from names session.calls.ports 0 0 keyboards)
-    (record { consoles = session.calls.ports; limit = 4194304; entries = [] }) Full =
+    (record { consoles = session.calls.ports; limit = MOST_ENTRIES; entries = [] }) Full =
     subst (λ (b : BoardState). LacksRoom (entries_from names b.consoles (active_on b) 0 keyboards) b Full) is_board h in
     subst (λ (ks : List PlainVtPhase).
-    4194304 < length (entries_from (operator_names session.phases) session.calls.ports 0 0 ks)) is_keyboards
-    (subst (λ (ns : List (List ℕ)). 4194304 < length (entries_from ns session.calls.ports 0 0 keyboards)) is_names
+    MOST_ENTRIES < length (entries_from (operator_names session.phases) session.calls.ports 0 0 ks)) is_keyboards
+    (subst (λ (ns : List (List ℕ)). MOST_ENTRIES < length (entries_from ns session.calls.ports 0 0 keyboards)) is_names
     (omega (arith, here)))
 board_denied session names board keyboards NoMemory is_names is_board is_keyboards h = tt
 
@@ -590,7 +500,7 @@ memory_denied session d e = subst (IsBoardDenied session) (sym e) tt
 entries_are : (session : PlainVtSession) (names : List (List ℕ)) (board played : BoardState)
     (keyboards : List PlainVtPhase)
     → names ≡ operator_names session.phases
-    → board ≡ record { consoles = session.calls.ports; limit = 4194304; entries = [] }
+    → board ≡ record { consoles = session.calls.ports; limit = MOST_ENTRIES; entries = [] }
     → keyboards ≡ session.phases
     → AddsAll (entries_from names board.consoles (active_on board) 0 keyboards) board played
     → played.entries ≡ entries_in_order session
@@ -605,14 +515,14 @@ entries_are session names board played keyboards is_names is_board is_keyboards 
 pub had_room : (session : PlainVtSession) (names : List (List ℕ)) (board played : BoardState)
     (keyboards : List PlainVtPhase)
     → names ≡ operator_names session.phases
-    → board ≡ record { consoles = session.calls.ports; limit = 4194304; entries = [] }
+    → board ≡ record { consoles = session.calls.ports; limit = MOST_ENTRIES; entries = [] }
     → keyboards ≡ session.phases
     → AddsAll (entries_from names board.consoles (active_on board) 0 keyboards) board played
     → IsBoard played
-    → length (entries_in_order session) ≤ 4194304
+    → length (entries_in_order session) ≤ MOST_ENTRIES
 had_room session names board played keyboards is_names is_board is_keyboards adds is =
     let same : length played.entries ≡ length (entries_in_order session) =
     ap (λ (l : List VtEntry). length l)
     (entries_are session names board played keyboards is_names is_board is_keyboards adds) in
-    let limit : board.limit ≡ 4194304 = ap (λ (b : BoardState). b.limit) is_board in
+    let limit : board.limit ≡ MOST_ENTRIES = ap (λ (b : BoardState). b.limit) is_board in
     omega (arith, limit, adds.limit, is.within, same)

@@ -11,7 +11,7 @@ use Rattle.vt_text.specs.declared.sessions.OpCall.{OpCall}
 use Rattle.vt_text.specs.declared.sessions.OpCall.TheVariants as op
 use Rattle.vt_text.specs.Sessions.{PlainOperator, PlainVtPhase, PlainVtSession}
 use Rattle.vt_text.specs.Limits.{key_count, calls_of, op_call_count, operator_count, IsVtWithin}
-use Rattle.vt_account.specs.Account.{accepted}
+use Rattle.vt_account.specs.Account.{granted}
 use Rattle.vt_account.specs.InOrder.{active_behind, key_entries, event_of, call_entries, entries_at, operator_entries}
 use Rattle.vt_account.specs.InOrder.{operators_entries, phase_entries, entries_from, entries_in_order}
 use Rattle.vt_account.specs.Keyed.{all_keys, IsWithinKeys}
@@ -73,18 +73,18 @@ chosen_few : (b : Bool) (call : OpCall) → length (if b then call ∷ [] else [
 chosen_few true call = omega arith
 chosen_few false call = omega arith
 
-one_accepted : (consoles : ℕ) (call : OpCall) → length (accepted consoles call) ≤ 1
+one_accepted : (consoles : ℕ) (call : OpCall) → length (granted consoles call) ≤ 1
 one_accepted consoles (op.Activate n) = chosen_few (nat_lt n consoles) (op.Activate n)
 one_accepted consoles op.State = omega arith
 
-few_accepted : (consoles : ℕ) (calls : List OpCall) → length (flat_map (accepted consoles) calls) ≤ length calls
+few_accepted : (consoles : ℕ) (calls : List OpCall) → length (flat_map (granted consoles) calls) ≤ length calls
 few_accepted consoles [] = omega arith
 few_accepted consoles (call ∷ calls) =
     omega (
       arith,
       one_accepted consoles call,
       few_accepted consoles calls,
-      length-append (accepted consoles call) (flat_map (accepted consoles) calls),
+      length-append (granted consoles call) (flat_map (granted consoles) calls),
     )
 
 some_calls : (seat active : ℕ) (calls : List OpCall) → length (call_entries seat active calls) ≡ length calls
@@ -96,7 +96,7 @@ few_at : (consoles active : ℕ) (o : Option ℕ) (calls : List OpCall)
     → length (entries_at consoles active (option_to_list o) calls) ≤ length calls
 few_at consoles active None calls = omega arith
 few_at consoles active (Some seat) calls =
-    omega (arith, some_calls seat active (flat_map (accepted consoles) calls), few_accepted consoles calls)
+    omega (arith, some_calls seat active (flat_map (granted consoles) calls), few_accepted consoles calls)
 
 few_operators : (names : List (List ℕ)) (consoles active : ℕ) (operators : List PlainOperator)
     → length (operators_entries names consoles active operators) ≤ calls_of operators

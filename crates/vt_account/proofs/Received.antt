@@ -19,7 +19,7 @@ use Rattle.tty_calls.specs.Sessions.{PlainPhase, line_on}
 use Rattle.vt_text.specs.Sessions.{PlainVtPhase, PlainVtSession}
 use Rattle.vt_consoles.specs.declared.entries.VtEntry.{VtEntry}
 use Rattle.vt_account.specs.Keyed.{keys_to, all_keys, consoles_in, key_line, keyed_phase}
-use Rattle.vt_account.specs.Keyed.{keyed_phases, keyed, line_script, IsWhole}
+use Rattle.vt_account.specs.Keyed.{keyed_phases, keyed, line_script, HasAllPhases}
 
 -- ---- steps
 
@@ -267,7 +267,7 @@ unfolding lost_count lost_count_after
 none_lost = refl
 
 goes_session : (session : PlainVtSession) (entries : List VtEntry) (p k : ℕ)
-    → IsWhole session
+    → HasAllPhases session
     → p < session.calls.ports
     → Hands [] (line_script p k (keyed session entries))
     (good_characters (keys_to p (all_keys (take k session.phases)) (consoles_in entries)))
@@ -283,7 +283,7 @@ goes_session session entries p k whole h =
     (goes_phases [] (keys_by_phase p consoles phases) clear_first).hands)
 
 pub keys_received : (session : PlainVtSession) (entries : List VtEntry) (p k : ℕ)
-    → IsWhole session
+    → HasAllPhases session
     → p < session.calls.ports
     → received_list (line_script p k (keyed session entries))
     ≡ good_characters (keys_to p (all_keys (take k session.phases)) (consoles_in entries))
@@ -294,7 +294,7 @@ keys_received session entries p k whole h =
     none_received
 
 pub keys_not_lost : (session : PlainVtSession) (entries : List VtEntry) (p k : ℕ)
-    → IsWhole session
+    → HasAllPhases session
     → p < session.calls.ports
     → lost_count (line_script p k (keyed session entries)) ≡ 0
 keys_not_lost session entries p k whole h = (goes_session session entries p k whole h).lost ∙ none_lost
@@ -322,7 +322,7 @@ phases_arrive (keys ∷ phases) =
     )
 
 pub keys_arrive : (session : PlainVtSession) (entries : List VtEntry) (p k : ℕ)
-    → IsWhole session
+    → HasAllPhases session
     → p < session.calls.ports
     → arrival_count (line_script p k (keyed session entries))
     ≡ length (keys_to p (all_keys (take k session.phases)) (consoles_in entries))

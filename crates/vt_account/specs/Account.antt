@@ -15,9 +15,9 @@ use Rattle.vt_account.specs.Seats.{operator_names, keyboard_seat}
 -- ---- what a session asks
 
 -- a call that is not refused: an activation of a console that there is not is
-abbrev pub accepted : (consoles : ℕ) → OpCall → List OpCall
-accepted consoles (op.Activate n) = if nat_lt n consoles then op.Activate n ∷ [] else []
-accepted consoles op.State = op.State ∷ []
+abbrev pub granted : (consoles : ℕ) → OpCall → List OpCall
+granted consoles (op.Activate n) = if nat_lt n consoles then op.Activate n ∷ [] else []
+granted consoles op.State = op.State ∷ []
 
 abbrev pub is_seat : Option ℕ → ℕ → Bool
 is_seat None seat = false
@@ -52,13 +52,14 @@ indexes_by seat entries = flat_map (λ (e : VtEntry). if e.seat == seat then ind
 
 -- The entries of a phase, of whose keys the first has this index: the keyboard's are one for each key, in order, and
 -- each operator's are one for each call of the phase that is not refused, in order. There are no others.
-pub record IsPartOf (session : PlainVtSession) (phase : PlainVtPhase) (first : ℕ) (part : List VtEntry) : Type 0 where
-  pub keys : (seat : ℕ)
-      → indexes_by seat part
-      ≡ (if keyboard_seat session.phases == seat then range_with_len first (length phase.keys) else [])
-  pub calls : (seat : ℕ)
-      → calls_by seat part
-      ≡ flat_map (accepted session.calls.ports) (calls_at (operator_names session.phases) seat phase)
+pub record IsPhasePart (session : PlainVtSession) (phase : PlainVtPhase) (first : ℕ) (part : List VtEntry) : Type 0
+  where
+    pub keys : (seat : ℕ)
+        → indexes_by seat part
+        ≡ (if keyboard_seat session.phases == seat then range_with_len first (length phase.keys) else [])
+    pub calls : (seat : ℕ)
+        → calls_by seat part
+        ≡ flat_map (granted session.calls.ports) (calls_at (operator_names session.phases) seat phase)
 
 -- the entries of a phase, and what is left
 pub record BeginsWithPart (session : PlainVtSession) (phase : PlainVtPhase) (first : ℕ) (entries : List VtEntry)
@@ -66,7 +67,7 @@ pub record BeginsWithPart (session : PlainVtSession) (phase : PlainVtPhase) (fir
   pub part : List VtEntry
   pub rest : List VtEntry
   pub parts : entries ≡ part ++ rest
-  pub is_part : IsPartOf session phase first part
+  pub is_part : IsPhasePart session phase first part
   pub goes_on : IsRest rest
 
 -- the entries of these phases, one behind the other

@@ -1,6 +1,7 @@
 -- The order of one thread for a board: in each phase the keys, and then the operators one after the other.
 use Rattle.std.specs.Prelude.{ℕ, ◌+◌, ◌<◌, List, [], ◌∷◌, ◌++◌, flat_map, length, map, option_to_list}
 use Rattle.std.specs.List.{fold, range_with_len}
+use Rattle.tty_base.specs.Sizes.{MOST_ENTRIES}
 use Rattle.tty_calls.specs.declared.answers.Denied.{Denied}
 use Rattle.tty_calls.specs.declared.answers.Denied.TheVariants.{NoMemory, Full}
 use Rattle.tty_calls.specs.Sessions.{number_in}
@@ -12,7 +13,7 @@ use Rattle.vt_text.specs.declared.sessions.OpCall.{OpCall}
 use Rattle.vt_text.specs.declared.sessions.OpCall.TheVariants as op
 use Rattle.vt_text.specs.Sessions.{PlainOperator, PlainVtPhase, PlainVtSession}
 use Rattle.vt_account.specs.Seats.{operator_names}
-use Rattle.vt_account.specs.Account.{accepted}
+use Rattle.vt_account.specs.Account.{granted}
 
 -- the console that is active behind entries, where this one is active before them
 abbrev pub active_behind : (active : ℕ) → List VtEntry → ℕ
@@ -37,7 +38,7 @@ call_entries seat active (call ∷ calls) =
 -- the calls of an operator that are not refused
 abbrev pub entries_at : (consoles active : ℕ) → List ℕ → List OpCall → List VtEntry
 entries_at consoles active [] calls = []
-entries_at consoles active (seat ∷ seats) calls = call_entries seat active (flat_map (accepted consoles) calls)
+entries_at consoles active (seat ∷ seats) calls = call_entries seat active (flat_map (granted consoles) calls)
 
 abbrev pub operator_entries : List (List ℕ) → (consoles active : ℕ) → PlainOperator → List VtEntry
 operator_entries names consoles active operator =
@@ -70,5 +71,5 @@ entries_in_order session = entries_from (operator_names session.phases) session.
 
 -- why the board of a session is not played: it has no room for all entries, or memory is short
 abbrev pub IsBoardDenied : PlainVtSession → Denied → Type 0
-IsBoardDenied session Full = 4194304 < length (entries_in_order session)
+IsBoardDenied session Full = MOST_ENTRIES < length (entries_in_order session)
 IsBoardDenied session NoMemory = Unit {0}

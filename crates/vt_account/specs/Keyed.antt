@@ -2,6 +2,7 @@
 use Rattle.std.specs.Prelude.{◌≡◌, ◌≤◌, ◌<◌, ℕ, ◌==◌, List, [], ◌∷◌, ◌++◌}
 use Rattle.std.specs.Prelude.{drop, flat_map, length, map, take, if◌then◌else◌}
 use Rattle.std.specs.List.{range_with_len}
+use Rattle.tty_base.specs.Sizes.{MOST_KEYS, MOST_SEATS}
 use Rattle.tty_base.specs.declared.lines.LineStep.{LineStep}
 use Rattle.tty_base.specs.declared.lines.LineStep.TheVariants.{Trigger}
 use Rattle.uart_line.specs.GoodSteps.{good_steps}
@@ -70,12 +71,12 @@ abbrev pub line_script : (p phases : ℕ) → PlainSession → List LineStep
 line_script p phases session = script (map (line_on p) (take phases session.phases))
 
 -- a session has as many phases for its keyboard and operators as for its callers
-abbrev pub IsWhole : PlainVtSession → Type 0
-IsWhole session = length session.calls.phases ≡ length session.phases
+abbrev pub HasAllPhases : PlainVtSession → Type 0
+HasAllPhases session = length session.calls.phases ≡ length session.phases
 
 -- the limits that a session of consoles keeps
 pub record IsWithinKeys (session : PlainVtSession) : Type 0 where
-  pub whole : IsWhole session
+  pub whole : HasAllPhases session
   pub calls : IsWithinLimits session.calls
-  pub few_keys : length (all_keys session.phases) ≤ 262144
-  pub few_seats : length (operator_names session.phases) < 4096
+  pub few_keys : length (all_keys session.phases) ≤ MOST_KEYS
+  pub few_seats : length (operator_names session.phases) < MOST_SEATS

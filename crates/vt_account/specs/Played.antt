@@ -10,7 +10,7 @@ use Rattle.vt_consoles.specs.declared.entries.VtEntry.{VtEntry}
 use Rattle.vt_consoles.specs.Boards.{BoardState, active_on}
 use Rattle.vt_text.specs.declared.sessions.OpCall.{OpCall}
 use Rattle.vt_text.specs.Sessions.{PlainOperator, PlainVtPhase}
-use Rattle.vt_account.specs.Account.{accepted}
+use Rattle.vt_account.specs.Account.{granted}
 use Rattle.vt_account.specs.Keyed.{all_keys, key_line}
 use Rattle.vt_account.specs.InOrder.{active_behind, key_entries, call_entries}
 use Rattle.vt_account.specs.InOrder.{operators_entries, phase_entries, entries_from}
@@ -60,8 +60,8 @@ pub record HasPressed (seat first count place : ℕ) (old new : BoardState) : Ty
 
 abbrev pub HasCalled : (seat : ℕ) → List OpCall → (place : ℕ) → (old new : BoardState) → Type 0
 HasCalled seat calls place old new =
-    HasLeft (call_entries seat (active_on old) (flat_map (accepted old.consoles) calls))
-    (call_entries seat (active_on new) (flat_map (accepted old.consoles) (drop place calls))) old new
+    HasLeft (call_entries seat (active_on old) (flat_map (granted old.consoles) calls))
+    (call_entries seat (active_on new) (flat_map (granted old.consoles) (drop place calls))) old new
 
 abbrev pub HasOperated : List (List ℕ) → List PlainOperator → (place : ℕ) → (old new : BoardState) → Type 0
 HasOperated names operators place old new =

@@ -24,15 +24,6 @@ abbrev pub told_from_before : List VtEntry
 told_from_before =
     by 1 (Key 0 0) ∷ by 1 (Key 1 0) ∷ by 0 (Activate 1) ∷ by 0 (State 0) ∷ by 1 (Key 2 1) ∷ by 1 (Key 3 1) ∷ []
 
--- .. where the first activation has no entry, and where a key has two
-abbrev pub silent_activation : List VtEntry
-silent_activation = by 1 (Key 0 0) ∷ by 1 (Key 1 0) ∷ by 0 (State 0) ∷ by 1 (Key 2 0) ∷ by 1 (Key 3 0) ∷ []
-
-abbrev pub doubled_key : List VtEntry
-doubled_key =
-    by 1 (Key 0 0) ∷ by 1 (Key 1 0) ∷ by 0 (Activate 1) ∷ by 0 (State 1) ∷ by 1 (Key 2 1) ∷ by 1 (Key 2 1)
-    ∷ by 1 (Key 3 1) ∷ []
-
 -- two consoles, and an operator that activates a third and asks
 abbrev pub refused_activation : PlainVtSession
 refused_activation = record {

@@ -1,9 +1,9 @@
 //! What the keyboard and the operators of a session do to its board on one thread.
 
-ghost use Rattle.std.specs.Prelude.{◌≡◌, ◌≤◌, ◌+◌, ◌<◌, ◌^◌, IfErr, OnOk, flat_map, length};
+ghost use Rattle.std.specs.Prelude.{◌+◌, ◌<◌, ◌^◌, IfErr, OnOk, flat_map, length};
 ghost use Rattle.vt_consoles.specs.Boards.{active_on};
 ghost use Rattle.vt_text.specs.Sessions.{operator_of, operators_of, vt_phase_of};
-ghost use Rattle.vt_account.specs.Account.{accepted};
+ghost use Rattle.vt_account.specs.Account.{granted};
 ghost use Rattle.vt_account.specs.InOrder.{key_entries, call_entries, operator_entries};
 ghost use Rattle.vt_account.specs.InOrder.{operators_entries, phase_entries};
 ghost use Rattle.vt_account.specs.Played.{AddsAll, LacksRoom};
@@ -81,10 +81,10 @@ fn call_by(board: &mut Board, names: &Names, operator: &OpScript) -> Result<(), 
 /// Calls of a seat. One that is refused has no entry.
 fn call_all(board: &mut Board, seat: u32, calls: &[OpCall]) -> Result<(), Denied>
     ensures added { OnOk result (AddsAll
-        (call_entries seat (active_on board.old) (flat_map (accepted board.old.consoles) calls.now))
+        (call_entries seat (active_on board.old) (flat_map (granted board.old.consoles) calls.now))
         board.old board.new) }
     ensures denied { IfErr result (λ denied. LacksRoom
-        (call_entries seat (active_on board.old) (flat_map (accepted board.old.consoles) calls.now)) board.old denied) }
+        (call_entries seat (active_on board.old) (flat_map (granted board.old.consoles) calls.now)) board.old denied) }
 {
     for call in calls {
         call_one(board, seat, *call)?;
@@ -94,9 +94,9 @@ fn call_all(board: &mut Board, seat: u32, calls: &[OpCall]) -> Result<(), Denied
 
 fn call_one(board: &mut Board, seat: u32, call: OpCall) -> Result<(), Denied>
     ensures added { OnOk result
-        (AddsAll (call_entries seat (active_on board.old) (accepted board.old.consoles call)) board.old board.new) }
+        (AddsAll (call_entries seat (active_on board.old) (granted board.old.consoles call)) board.old board.new) }
     ensures denied { IfErr result (λ denied.
-        LacksRoom (call_entries seat (active_on board.old) (accepted board.old.consoles call)) board.old denied) }
+        LacksRoom (call_entries seat (active_on board.old) (granted board.old.consoles call)) board.old denied) }
 {
     match call {
         OpCall::Activate(n) => activate(board, seat, n),
@@ -109,10 +109,10 @@ fn call_one(board: &mut Board, seat: u32, call: OpCall) -> Result<(), Denied>
 
 fn activate(board: &mut Board, seat: u32, n: u8) -> Result<(), Denied>
     ensures added { OnOk result (AddsAll
-        (call_entries seat (active_on board.old) (accepted board.old.consoles (OpCall.Activate n)))
+        (call_entries seat (active_on board.old) (granted board.old.consoles (OpCall.Activate n)))
         board.old board.new) }
     ensures denied { IfErr result (λ denied. LacksRoom
-        (call_entries seat (active_on board.old) (accepted board.old.consoles (OpCall.Activate n))) board.old denied) }
+        (call_entries seat (active_on board.old) (granted board.old.consoles (OpCall.Activate n))) board.old denied) }
 {
     match board.activate(seat, n) {
         Ok(()) => Ok(()),

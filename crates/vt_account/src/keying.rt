@@ -1,6 +1,7 @@
 //! The session that the consoles play: their keys come on lines.
 
 ghost use Rattle.std.specs.Prelude.{◌≡◌, ◌<◌, ◌≤◌, ◌==◌, ◌^◌, [], IfErr, IfOk, OnOk, if◌then◌else◌, length, map};
+ghost use Rattle.tty_base.specs.Sizes.{MOST_CONSOLES, MOST_ENTRIES};
 ghost use Rattle.tty_calls.specs.Sessions.{phase_of, session_of};
 ghost use Rattle.vt_consoles.specs.Boards.{active_on};
 ghost use Rattle.vt_text.specs.Sessions.{vt_phase_of, vt_session_of};
@@ -14,13 +15,11 @@ use crate::seats::seats_of;
 use line_steps::LineSteps;
 use std::alloc::Global;
 use std::mem;
+use tty_base::sizes::MOST_ENTRIES;
 use tty_base::{Buffer, Flag, LineStep, NoMemory};
 use tty_calls::{Denied, Names, Phase};
 use vt_consoles::Board;
 use vt_text::{VtPhase, VtSession};
-
-/// How many entries a board may have.
-const MOST_ENTRIES: u32 = 4_194_304;
 
 /// A line on which these keys come.
 fn line_of(alloc: Global, keys: &[u8]) -> Result<LineSteps, NoMemory>
@@ -106,8 +105,8 @@ fn play_phases(
 
 /// A board, with so many consoles and room for as many entries as a board may have.
 fn new_board(alloc: Global, consoles: u8) -> Result<Board, Denied>
-    requires { (0 < consoles) × (consoles ≤ 8) }
-    ensures made { IfOk result (λ board. board ≡ record { consoles = consoles; limit = 4194304; entries = [] }) }
+    requires { (0 < consoles) × (consoles ≤ MOST_CONSOLES) }
+    ensures made { IfOk result (λ board. board ≡ record { consoles = consoles; limit = MOST_ENTRIES; entries = [] }) }
     ensures denied { IfErr result (λ denied. denied ≡ Denied.NoMemory) }
 {
     match Board::new(alloc, consoles, MOST_ENTRIES) {
@@ -122,7 +121,7 @@ fn new_board(alloc: Global, consoles: u8) -> Result<Board, Denied>
 pub fn play_board(alloc: Global, session: &mut VtSession) -> Result<Board, Denied>
     requires { IsWithinKeys (vt_session_of session.old) }
     ensures entries { IfOk result (λ board. board.entries ≡ entries_in_order (vt_session_of session.old)) }
-    ensures room { OnOk result (length (entries_in_order (vt_session_of session.old)) ≤ 4194304) }
+    ensures room { OnOk result (length (entries_in_order (vt_session_of session.old)) ≤ MOST_ENTRIES) }
     ensures denied { IfErr result (λ denied. IsBoardDenied (vt_session_of session.old) denied) }
     ensures keyed { OnOk result (session_of session.new.calls
         ≡ keyed (vt_session_of session.old) (entries_in_order (vt_session_of session.old))) }
@@ -133,7 +132,7 @@ pub fn play_board(alloc: Global, session: &mut VtSession) -> Result<Board, Denie
     let mut phases = mem::replace(&mut session.calls.phases, Buffer::new(alloc)).into_vec();
     let keyboards = session.phases.as_slice();
     play_phases(alloc, &mut board, &names, keyboards, phases.as_mut_slice())?;
-    let _entries = board.entries();
+    let _entries = board.entries(); // known: the entries are a board run
     session.calls.version = 0;
     session.calls.phases = Buffer::from_vec(phases);
     Ok(board)

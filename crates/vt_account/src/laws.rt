@@ -1,17 +1,17 @@
 //! What follows from the definitions alone.
 
-ghost use Rattle.std.specs.Prelude.{◌≡◌, ◌<◌, ◌≤◌, ℕ, List, Ok, length, map, take};
+ghost use Rattle.std.specs.Prelude.{◌≡◌, ◌<◌, ◌≤◌, ℕ, List, Ok, length, take};
 ghost use Rattle.tty_base.specs.Characters.{good_characters};
 ghost use Rattle.tty_base.specs.Lines.{arrival_count};
-ghost use Rattle.uart_line.specs.Received.{received_list, lost_count, script};
+ghost use Rattle.uart_line.specs.Received.{received_list, lost_count};
 ghost use Rattle.tty_calls.specs.Limits.{IsWithinLimits};
-ghost use Rattle.tty_calls.specs.Sessions.{line_on};
 ghost use Rattle.vt_consoles.specs.declared.entries.VtEntry.{VtEntry};
 ghost use Rattle.vt_text.specs.Sessions.{PlainVtSession};
 ghost use Rattle.vt_text.specs.Reading.{vt_in};
 ghost use Rattle.vt_text.specs.Rows.{two_consoles};
 ghost use Rattle.vt_account.specs.Account.{IsAccount};
-ghost use Rattle.vt_account.specs.Keyed.{IsWhole, IsWithinKeys, all_keys, consoles_in, keys_to, keyed, line_script};
+ghost use Rattle.vt_account.specs.Keyed.{HasAllPhases, IsWithinKeys, all_keys, consoles_in, keys_to, keyed};
+ghost use Rattle.vt_account.specs.Keyed.{line_script};
 ghost use Rattle.vt_account.specs.InOrder.{entries_in_order};
 ghost use Rattle.vt_account.specs.Rows.{two_consoles_entries, refused_activation};
 ghost use Rattle.vt_account.specs.Rows.{refused_activation_entries, console_0_only, told_from_before};
@@ -25,17 +25,17 @@ pub fn entries_in_order_are_an_account()
 /// else, and none is lost.
 pub fn keys_are_received_as_they_come()
     ensures received { (session : PlainVtSession) (entries : List VtEntry) (p k : ℕ)
-        → IsWhole session
+        → HasAllPhases session
         → p < session.calls.ports
         → received_list (line_script p k (keyed session entries))
         ≡ good_characters (keys_to p (all_keys (take k session.phases)) (consoles_in entries)) }
     ensures arrived { (session : PlainVtSession) (entries : List VtEntry) (p k : ℕ)
-        → IsWhole session
+        → HasAllPhases session
         → p < session.calls.ports
         → arrival_count (line_script p k (keyed session entries))
         ≡ length (keys_to p (all_keys (take k session.phases)) (consoles_in entries)) }
     ensures none_lost { (session : PlainVtSession) (entries : List VtEntry) (p k : ℕ)
-        → IsWhole session
+        → HasAllPhases session
         → p < session.calls.ports
         → lost_count (line_script p k (keyed session entries)) ≡ 0 }
 {}

@@ -1,5 +1,6 @@
 -- A board of consoles, as contracts see it.
 use Rattle.std.specs.Prelude.{◌≡◌, ℕ, ◌<◌, ◌≤◌, List, [], ◌∷◌, ◌++◌, length}
+use Rattle.tty_base.specs.Sizes.{MOST_CONSOLES, MOST_ENTRIES}
 use Rattle.tty_calls.specs.declared.answers.Denied.{Denied}
 use Rattle.tty_calls.specs.declared.answers.Denied.TheVariants.{NoMemory, Full}
 use Rattle.vt_consoles.specs.declared.entries.VtEntry.{VtEntry}
@@ -22,10 +23,10 @@ with_entry b seat event = record b { entries = b.entries ++ record { seat = seat
 -- what holds of every board
 pub record IsBoard (b : BoardState) : Type 0 where
   pub some : 0 < b.consoles
-  pub few : b.consoles ≤ 8
+  pub few : b.consoles ≤ MOST_CONSOLES
   pub run : IsBoardRun b.consoles b.entries
   pub within : length b.entries ≤ b.limit
-  pub most : b.limit ≤ 4194304
+  pub most : b.limit ≤ MOST_ENTRIES
 
 -- the board has room for an entry
 abbrev pub HasRoom : BoardState → Type 0

@@ -5,6 +5,6 @@ use Rattle.vt_consoles.specs.declared.entries.VtFault.TheVariants.{NoConsole, De
 use Rattle.vt_consoles.specs.Boards.{BoardState, IsDenied}
 
 -- there is no such console, which is looked for first; or the board makes no entry
-abbrev pub IsRefused : BoardState → (n : ℕ) → VtFault → Type 0
-IsRefused b n NoConsole = b.consoles ≤ n
-IsRefused b n (Denied d) = (n < b.consoles) × IsDenied b d
+abbrev pub IsRefusedCall : BoardState → (n : ℕ) → VtFault → Type 0
+IsRefusedCall b n NoConsole = b.consoles ≤ n
+IsRefusedCall b n (Denied d) = (n < b.consoles) × IsDenied b d

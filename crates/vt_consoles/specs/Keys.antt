@@ -1,8 +1,9 @@
 -- What a key does to the putting ends of the consoles.
-use Rattle.std.specs.Prelude.{◌≡◌, ℕ, ◌+◌, ◌^◌, ◌<◌, ◌≤◌, List, [], ◌∷◌, ◌++◌, Option}
+use Rattle.std.specs.Prelude.{◌≡◌, ℕ, ◌+◌, ◌<◌, ◌≤◌, List, [], ◌∷◌, ◌++◌, Option}
 use Rattle.std.specs.Prelude.{None, Some, MatchOption, length, slice_index_or, slice_set}
 use Rattle.std.specs.List.{All}
 use Rattle.std.specs.List.Sorted.{IsNonDecreasing}
+use Rattle.tty_base.specs.Sizes.{MOST_SENT}
 use Rattle.tty_base.specs.declared.characters.Flag.TheVariants.{Normal}
 use Rattle.tty_base.specs.declared.characters.Flagged.{Flagged}
 use Rattle.tty_base.specs.declared.lines.Full.{Full}
@@ -12,16 +13,16 @@ use Rattle.word_ring.specs.Ends.{PutterState, with_loaded}
 abbrev pub key_character : (byte : ℕ) → Flagged
 key_character byte = record { byte = byte; flag = Normal }
 
--- what the buffer accepts of one character
-abbrev pub accepted : Flagged → (lost : Option Full) → List Flagged
-accepted c None = c ∷ []
-accepted c (Some full) = []
+-- what the buffer appends of one character
+abbrev pub appended : Flagged → (lost : Option Full) → List Flagged
+appended c None = c ∷ []
+appended c (Some full) = []
 
 -- One character was put, and all that was put is pushed. It is lost exactly where the buffer was full, at the head
 -- that the put loaded.
 pub record PutsAndPushes (c : Flagged) (lost : Option Full) (old new : PutterState Flagged) : Type 0 where
   pub puts : new
-      ≡ record (with_loaded old new.floor) { sent = old.sent ++ accepted c lost; pushed = old.sent ++ accepted c lost }
+      ≡ record (with_loaded old new.floor) { sent = old.sent ++ appended c lost; pushed = old.sent ++ appended c lost }
   pub exact : MatchOption lost
       (length old.sent < new.floor + old.capacity)
       (λ f. (f ≡ record { sent = length old.sent; seen = new.floor }) × (length old.sent ≡ new.floor + old.capacity))
@@ -39,4 +40,4 @@ pub record GoesTo (byte console : ℕ) (lost : Option Full) (old new : List (Put
 
 -- each end has put fewer characters than it can count
 abbrev pub CanPut : List (PutterState Flagged) → Type 0
-CanPut ends = All (λ (p : PutterState Flagged). length p.sent < 2 ^ 63) ends
+CanPut ends = All (λ (p : PutterState Flagged). length p.sent < MOST_SENT) ends

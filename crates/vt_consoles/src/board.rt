@@ -1,9 +1,10 @@
 //! A board of consoles.
 
-ghost use Rattle.std.specs.Prelude.{◌≡◌, ◌^◌, ◌<◌, ◌≤◌, [], length, IfOk, IfErr, OnOk, OnErr};
+ghost use Rattle.std.specs.Prelude.{◌≡◌, ◌<◌, ◌≤◌, [], length, IfOk, IfErr, OnOk, OnErr};
+ghost use Rattle.tty_base.specs.Sizes.{MOST_CONSOLES, MOST_ENTRIES, MOST_SENT};
 ghost use Rattle.vt_consoles.specs.Runs.{NamesRightly, active_after as active_behind};
 ghost use Rattle.vt_consoles.specs.Boards.{IsBoard, Adds, IsDenied, active_on};
-ghost use Rattle.vt_consoles.specs.Faults.{IsRefused};
+ghost use Rattle.vt_consoles.specs.Faults.{IsRefusedCall};
 ghost use Rattle.vt_consoles.specs.Keys.{CanPut, GoesTo, PutsAndPushes, key_character};
 
 use crate::entries::{Keyed, VtEntry, VtEvent, VtFault};
@@ -38,8 +39,8 @@ impl Model for Board {
 impl Board {
     /// A board with so many consoles, which has at most so many entries. Console 0 is active.
     pub fn new(alloc: Global, consoles: u8, limit: u32) -> Result<Board, NoMemory>
-        requires consoles { (0 < consoles) × (consoles ≤ 8) }
-        requires limit { (0 < limit) × (limit ≤ 4194304) }
+        requires consoles { (0 < consoles) × (consoles ≤ MOST_CONSOLES) }
+        requires limit { (0 < limit) × (limit ≤ MOST_ENTRIES) }
         ensures { IfOk result (λ b. b ≡ record { consoles = consoles; limit = limit; entries = [] }) }
     {
         let mut entries = Buffer::new(alloc);
@@ -57,7 +58,7 @@ impl Board {
     pub fn activate(&mut self, seat: u32, n: u8) -> Result<(), VtFault>
         ensures ok { OnOk result (Adds seat (VtEvent.Activate n) self.old self.new) }
         ensures err { OnErr result (self.new ≡ self.old) }
-        ensures refused { IfErr result (λ fault. IsRefused self.old n fault) }
+        ensures refused { IfErr result (λ fault. IsRefusedCall self.old n fault) }
     {
         if n >= self.consoles() {
             return Err(VtFault::NoConsole);
@@ -118,7 +119,7 @@ impl Board {
         ensures entries { result.now ≡ self.now.entries }
         ensures board { IsBoard self.now }
     {
-        let _active = &self.active;
+        let _active = &self.active; // known: the board keeps its entries
         self.entries.as_slice()
     }
 
@@ -187,7 +188,7 @@ fn put_at(ends: &mut [FlipIn], console: u8, byte: u8) -> Option<Full>
 
 /// Puts a key, and pushes.
 fn put_and_push(end: &mut FlipIn, byte: u8) -> Option<Full>
-    requires { length end.old.sent < 2 ^ 63 }
+    requires { length end.old.sent < MOST_SENT }
     ensures { PutsAndPushes (key_character byte) result end.old end.new }
 {
     let key = Flagged {

@@ -1,8 +1,5 @@
 //! The board in a cell.
 
-ghost use Rattle.std.specs.Prelude.{◌≡◌, length};
-ghost use Rattle.port_cell.specs.Entries.{generation_of};
-
 use crate::board::Board;
 use crate::entries::VtEvent;
 use port_cell::Kept;
@@ -30,7 +27,7 @@ impl Kept for Board {
     }
 
     fn generation(&self) -> u32 {
-        let _entries = self.entries();
+        let _entries = self.entries(); // known: the entries are a board run
         0
     }
 }

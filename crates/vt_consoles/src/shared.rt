@@ -1,13 +1,14 @@
 //! A board that threads share.
 
 ghost use Rattle.std.specs.Prelude.{◌≡◌, ◌<◌, ◌≤◌, true, false, length, Some, IfOk, IfErr, OnOk, OnErr};
+ghost use Rattle.tty_base.specs.Sizes.{MOST_SEATS};
 ghost use Rattle.port_cell.specs.Entries.{generation_of, AddsBy, GoesOn};
 ghost use Rattle.port_cell.specs.Knowledge.{number_of, name_of, list_seen, has_turn, is_raised};
 ghost use Rattle.port_cell.specs.Lent.{value_in};
 ghost use Rattle.port_cell.specs.Seats.{EachSeat, HasAll, IsSeat, IsSameSeat, KeepsUse};
 ghost use Rattle.vt_consoles.specs.declared.entries.VtEvent.{VtEvent};
 ghost use Rattle.vt_consoles.specs.Boards.{IsBoard, IsDenied};
-ghost use Rattle.vt_consoles.specs.Faults.{IsRefused};
+ghost use Rattle.vt_consoles.specs.Faults.{IsRefusedCall};
 ghost use Rattle.vt_consoles.specs.Keys.{CanPut, GoesTo};
 ghost use Rattle.vt_consoles.specs.Histories.{history_of, board_with, name_of as board_name};
 ghost use Rattle.vt_consoles.specs.Seats.{Makes, MakesNone, HasAllOf};
@@ -40,7 +41,7 @@ impl SharedBoard {
         seats: u32,
     ) -> Result<(SharedBoard, Vec<Seat>), NoMemory>
         requires some { 0 < seats }
-        requires few { seats ≤ 4096 }
+        requires few { seats ≤ MOST_SEATS }
         ensures opening { IfOk result (λ r. opening_board r.0 ≡ board) }
         ensures seats { IfOk result (λ r. seats_of r.0 ≡ seats) }
         ensures count { IfOk result (λ r. length r.1.items ≡ seats) }
@@ -64,7 +65,7 @@ impl SharedBoard {
         ensures ok { OnOk result (Makes (name_of_board self.now) number (VtEvent.Activate n) seat.old seat.new) }
         ensures err { OnErr result (MakesNone number seat.old seat.new) }
         ensures refused { IfErr result
-            (λ fault. IsRefused (board_with (name_of_board self.now) (list_seen seat.new)) n fault) }
+            (λ fault. IsRefusedCall (board_with (name_of_board self.now) (list_seen seat.new)) n fault) }
     {
         let mut turn = self.cell.turn(rt, seat);
         let result = turn.value().activate(number, n);
@@ -130,7 +131,7 @@ impl SharedBoard {
     {
         let SharedBoard { cell } = self;
         let board = cell.close(seats);
-        let _entries = board.entries();
+        let _entries = board.entries(); // known: the entries are a board run
         board
     }
 

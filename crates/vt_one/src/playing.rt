@@ -1,15 +1,17 @@
 //! A session of consoles played on one thread, and what became of its board and its consoles.
 
 ghost use Rattle.std.specs.Prelude.{◌≡◌, ◌≤◌, IfErr, IfOk, OnOk, length};
+ghost use Rattle.tty_base.specs.Sizes.{MOST_ENTRIES};
 ghost use Rattle.tty_calls.specs.Limits.{IsWithinLimits};
 ghost use Rattle.tty_calls.specs.Sessions.{session_of};
-ghost use Rattle.one_thread.specs.Played.{ArePlayed, AreInOneOrder};
+ghost use Rattle.play_base.specs.Played.{ArePlayed, AreInOneOrder};
 ghost use Rattle.vt_text.specs.Sessions.{vt_session_of};
 ghost use Rattle.vt_account.specs.InOrder.{IsBoardDenied, entries_in_order};
 ghost use Rattle.vt_account.specs.Keyed.{IsWithinKeys, keyed};
 ghost use Rattle.vt_one.specs.Played.{IsVtInOrder, IsVtPlayed};
 
-use one_thread::{Played, play};
+use one_thread::play;
+use play_base::Played;
 use std::alloc::Global;
 use tty_base::NoMemory;
 use tty_calls::{Denied, Session};
@@ -33,7 +35,7 @@ pub fn play_vt(alloc: Global, session: &mut VtSession) -> Result<VtPlayed, Denie
         played.consoles.runs.items played.consoles.ends.items) }
     ensures in_order { IfOk result
         (λ played. IsVtInOrder (vt_session_of session.old) played.board.entries played.consoles.runs.items) }
-    ensures room { OnOk result (length (entries_in_order (vt_session_of session.old)) ≤ 4194304) }
+    ensures room { OnOk result (length (entries_in_order (vt_session_of session.old)) ≤ MOST_ENTRIES) }
     ensures denied { IfErr result (λ denied. IsBoardDenied (vt_session_of session.old) denied) }
     ensures keyed { IfOk result
         (λ played. session_of session.new.calls ≡ keyed (vt_session_of session.old) played.board.entries) }

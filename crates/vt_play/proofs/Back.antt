@@ -5,7 +5,7 @@ use Rattle.word_ring.specs.Ends.{PutterState}
 use Rattle.uart_line.specs.LineState.{LineState}
 use Rattle.many_threads.specs.declared.caller_threads.CallersBack.{CallersBack}
 use Rattle.many_threads.specs.declared.thread_bodies.FlusherBack.{FlusherBack}
-use Rattle.vt_threads.specs.declared.console_ends.KeySeats.{KeySeats}
+use Rattle.vt_keyboard.specs.declared.console_ends.KeySeats.{KeySeats}
 use Rattle.vt_threads.specs.declared.parting.Parted.{Parted}
 use Rattle.vt_threads.specs.declared.parting.PartedBack.{PartedBack}
 use Rattle.vt_play.specs.Parts.{kept_in}

@@ -5,9 +5,9 @@ use Rattle.std.proofs.Common.{length, refl, sym, subst, ap, ◌∙◌, arith, le
 use Rattle.std.specs.Prelude.{IfErr, OnErr, OnOk, slice_get}
 use Rattle.std.proofs.lemmas.List.{length-take-le}
 use Rattle.std.proofs.lemmas.Option.{slice_get_within}
-use Rattle.journal_check.proofs.NameLemmas.{get_append, get_past}
+use Rattle.legal_runs.proofs.NameLemmas.{get_append, get_past}
 use Rattle.tty_calls.specs.declared.answers.Denied.{Denied}
-use Rattle.one_thread.proofs.PortLemmas.{last_or}
+use Rattle.play_base.proofs.PortLemmas.{last_or}
 use Rattle.port_cell.specs.Knowledge.{number_of}
 use Rattle.port_cell.specs.Seats.{EachSeat, HasAll}
 use Rattle.vt_consoles.specs.declared.entries.VtEvent.{VtEvent}
@@ -17,8 +17,8 @@ use Rattle.vt_consoles.specs.Seats.{BoardSeat}
 use Rattle.vt_consoles.specs.Shared.{IsHere, opening_board, seats_of}
 use Rattle.vt_text.specs.Sessions.{PlainVtPhase, vt_phase_of}
 use Rattle.vt_threads.specs.Closing.{MadeSince, OperatorPlayed, SeatsPlayed}
-use Rattle.vt_threads.specs.Operating.{MakesAll}
-use Rattle.vt_threads.specs.Phases.{key_events}
+use Rattle.vt_keyboard.specs.Operating.{MakesAll}
+use Rattle.vt_keyboard.specs.Phases.{key_events}
 use Rattle.vt_threads.proofs.BoardEnds.{made_since}
 use Rattle.vt_play.specs.declared.board_threads.BoardBack.{BoardBack}
 use Rattle.vt_play.specs.declared.board_threads.BoardHand.{BoardHand}

@@ -1,8 +1,8 @@
 -- What the operators and the keyboard come to, one after the other.
-use Rattle.std.proofs.Common.{◌≡◌, ℕ, ◌<◌, ◌≤◌, List, [], ◌∷◌, ◌++◌, Some, Result}
+use Rattle.std.proofs.Common.{◌≡◌, ℕ, ◌<◌, ◌≤◌, List, [], ◌∷◌, ◌++◌, Result}
 use Rattle.std.proofs.Common.{Ok, Err, flat_map, length, sym, subst, ap, ◌∙◌, arith, length-append}
 use Rattle.std.specs.Prelude.{IfErr, IfOk, OnErr, OnOk, slice_get}
-use Rattle.journal_check.proofs.NameLemmas.{get_append, get_past}
+use Rattle.legal_runs.proofs.NameLemmas.{get_append, get_past}
 use Rattle.tty_calls.specs.declared.answers.Denied.{Denied}
 use Rattle.many_threads.proofs.Onward.{each_front, each_last, each_one_more}
 use Rattle.port_cell.specs.Knowledge.{list_seen, number_of}
@@ -14,8 +14,8 @@ use Rattle.vt_consoles.specs.declared.shared.SharedBoard.{SharedBoard}
 use Rattle.vt_text.specs.declared.sessions.OpScript.{OpScript}
 use Rattle.vt_text.specs.declared.sessions.VtPhase.{VtPhase}
 use Rattle.vt_text.specs.Sessions.{PlainVtPhase, operators_of, vt_phase_of}
-use Rattle.vt_account.specs.Account.{accepted, calls_at}
-use Rattle.vt_threads.specs.Operating.{AnswersCalls, AnswersFirst, calls_of_seat}
+use Rattle.vt_account.specs.Account.{granted, calls_at}
+use Rattle.vt_keyboard.specs.Operating.{AnswersCalls, AnswersFirst, calls_of_seat}
 use Rattle.vt_threads.proofs.BoardEnds.{made_since, operator_played}
 use Rattle.vt_play.specs.declared.board_threads.BoardBack.{BoardBack}
 use Rattle.vt_play.specs.declared.board_threads.BoardHand.{BoardHand}
@@ -41,7 +41,7 @@ began_all b names phase n old new fresh is h = record {
   made = made_since (history_of (opening_board b)) n h.events old new fresh.here.number is fresh.seen h.makes;
   few = subst (λ (k : ℕ).
       length h.events
-      ≤ length (flat_map (accepted (opening_board b).consoles) (calls_at names k (vt_phase_of phase))))
+      ≤ length (flat_map (granted (opening_board b).consoles) (calls_at names k (vt_phase_of phase))))
       (sym is)
       (let few = answers_few (opening_board b).consoles n
       (calls_of_seat names n (vt_phase_of phase).operators) old new h in
@@ -59,7 +59,7 @@ began_first b names phase n old new fresh is h = record {
       old new fresh.here.number is fresh.seen h.2.answered.makes;
   few = subst (λ (k : ℕ).
       length h.2.answered.events
-      ≤ length (flat_map (accepted (opening_board b).consoles) (calls_at names k (vt_phase_of phase))))
+      ≤ length (flat_map (granted (opening_board b).consoles) (calls_at names k (vt_phase_of phase))))
       (sym is)
       (let few = first_few (opening_board b).consoles n
       (calls_of_seat names n (vt_phase_of phase).operators) old new h in
@@ -116,25 +116,6 @@ operator_comes b names phase n operators old new (Err d) are fresh here ok err d
     }
 
 -- ---- operators one after the other
-
-pub board_none : (stage : Stage) (hand : BoardHand) (back : BoardBack)
-    → hand.seats.items ≡ []
-    → back.seats.items ≡ []
-    → back.operated ≡ Ok tt
-    → KeyboardComes stage hand.keys back.keys
-    → BoardComes stage hand back
-board_none stage hand back none no_seats ok keys = record {
-  count = ap (λ (l : List BoardSeat). length l) no_seats ∙ ap (λ (l : List BoardSeat). length l) (sym none);
-  seats = λ i s at. absurd (no_seat i s (ap (λ (l : List BoardSeat). slice_get l i) (sym no_seats) ∙ at));
-  operated = subst (λ (r : Result (Unit {0}) Denied). OnOk r (Places (HasOperated stage) back.seats.items)) (sym ok)
-      (λ i s at. absurd (no_seat i s (ap (λ (l : List BoardSeat). slice_get l i) (sym no_seats) ∙ at)));
-  denied = subst (λ (r : Result (Unit {0}) Denied). IfErr r
-      (SomeDenied stage.board.now stage.names.now (vt_phase_of stage.phase.now) back.seats.items)) (sym ok) tt;
-  keys = keys;
-}
-  where
-    no_seat : (i : ℕ) (s : BoardSeat) → slice_get [] i ≡ Some s → ⊥
-    no_seat i s h = cc
 
 module _ (stage : Stage) (hand fewer : BoardHand) (others : List BoardSeat) (seat : BoardSeat)
     (split : hand.seats.items ≡ others ++ seat ∷ []) (fewer_are : fewer.seats.items ≡ others)

@@ -1,5 +1,5 @@
 -- The parts of consoles in lists: one console more, and one less.
-use Rattle.std.proofs.Common.{◌≡◌, ◌⊎◌, inl, inr, ℕ, ◌<◌, List, [], ◌∷◌, ◌++◌, Option}
+use Rattle.std.proofs.Common.{◌≡◌, ◌⊎◌, inl, inr, ℕ, List, [], ◌∷◌, ◌++◌, Option}
 use Rattle.std.proofs.Common.{Some, length, map, refl, sym, subst, ap, ◌∙◌, arith, length-append}
 use Rattle.std.specs.Prelude.{slice_get}
 use Rattle.std.proofs.lemmas.List.{map-append}
@@ -8,12 +8,12 @@ use Rattle.word_ring.specs.Ends.{PutterState}
 use Rattle.tty_base.specs.declared.characters.Flagged.{Flagged}
 use Rattle.uart_line.specs.LineState.{LineState}
 use Rattle.tty_calls.specs.declared.sessions.Session.{Session}
-use Rattle.one_thread.proofs.PortLemmas.{last_or}
+use Rattle.play_base.proofs.PortLemmas.{last_or}
 use Rattle.tty_port.specs.declared.shared.SharedPort.{SharedPort}
 use Rattle.many_threads.specs.declared.caller_threads.CallersBack.{CallersBack}
 use Rattle.many_threads.specs.declared.thread_bodies.FlusherBack.{FlusherBack}
 use Rattle.vt_threads.specs.Parting.{IsParted}
-use Rattle.vt_threads.specs.declared.console_ends.KeySeats.{KeySeats}
+use Rattle.vt_keyboard.specs.declared.console_ends.KeySeats.{KeySeats}
 use Rattle.vt_threads.specs.declared.consoles.Console.{Console}
 use Rattle.vt_threads.specs.declared.parting.Parted.{Parted}
 use Rattle.vt_threads.specs.declared.parting.PartedBack.{PartedBack}
@@ -104,31 +104,6 @@ column_less : {X Y : Type 0} (f : X → Y) (old now : List Y) (xs : List X) (x :
     → old ≡ now ++ y ∷ []
     → (now ≡ map f xs) × (y ≡ f x)
 column_less f old now xs x y h e = snoc_is now (map f xs) y (f x) (sym e ∙ h ∙ map-append f xs (x ∷ []))
-
-column_some : {X Y : Type 0} (f : X → Y) (ys : List Y) (xs : List X) (x : X) → ys ≡ map f (xs ++ x ∷ []) → 0 < length ys
-column_some f ys xs x h =
-    let size = column_length f ys (xs ++ x ∷ []) h in let more = length-append xs (x ∷ []) in omega (arith, size, more)
-
--- in none of the lists there is nothing
-pub record AreSome (all : AllBack) : Type 0 where
-  pub ports : 0 < length all.ports.items
-  pub seats : 0 < length all.keyboard.seats.items
-  pub owns : 0 < length all.owns.items
-  pub lines : 0 < length all.keyboard.keyed.lines.items
-  pub ends : 0 < length all.keyboard.keyed.ends.items
-  pub castings : 0 < length all.castings.items
-  pub kept : 0 < length all.kept.items
-
-pub are_some : (bs : List PartedBack) (b : PartedBack) (all : AllBack) → AreBackOf (bs ++ b ∷ []) all → AreSome all
-are_some bs b all h = record {
-  ports = column_some (λ (b : PartedBack). b.port) all.ports.items bs b h.ports;
-  seats = column_some (λ (b : PartedBack). b.seats) all.keyboard.seats.items bs b h.seats;
-  owns = column_some (λ (b : PartedBack). b.own) all.owns.items bs b h.owns;
-  lines = column_some (λ (b : PartedBack). b.line) all.keyboard.keyed.lines.items bs b h.lines;
-  ends = column_some (λ (b : PartedBack). b.end) all.keyboard.keyed.ends.items bs b h.ends;
-  castings = column_some (λ (b : PartedBack). b.rest.casting) all.castings.items bs b h.castings;
-  kept = column_some (λ (b : PartedBack). kept_in b.rest) all.kept.items bs b h.kept;
-}
 
 same_back : (b : PartedBack) (port : Option SharedPort) (seats : Option KeySeats)
     (own : Option (FlusherBack × CallersBack)) (line : LineState) (end : PutterState Flagged) (casting : Casting)

@@ -1,21 +1,20 @@
 -- Consoles opened and ended one after the other, and their keys.
-use Rattle.std.proofs.Common.{◌≡◌, ℕ, ◌+◌, ◌<◌, ◌≤◌, List, [], ◌∷◌, ◌++◌, Some, drop, length}
+use Rattle.std.proofs.Common.{◌≡◌, ℕ, ◌+◌, ◌<◌, List, [], ◌∷◌, ◌++◌, Some, drop, length}
 use Rattle.std.proofs.Common.{map, refl, sym, subst, ap, ◌∙◌, get_or, length-append}
 use Rattle.std.specs.Prelude.{slice_get}
-use Rattle.std.proofs.lemmas.List.{drop_all}
 use Rattle.tty_calls.specs.declared.answers.PortEnd.{PortEnd}
 use Rattle.tty_calls.specs.declared.journals.PortRun.{PortRun}
 use Rattle.tty_calls.specs.Sessions.{PlainSession}
-use Rattle.one_thread.specs.Phases.{AreFirstPlayed}
-use Rattle.one_thread.specs.Played.{ArePlayed, IsPlayedOn}
-use Rattle.one_thread.specs.Roles.{Scene}
-use Rattle.one_thread.proofs.PortLemmas.{one_more_played}
-use Rattle.many_threads.specs.InPlay.{StandsBefore}
+use Rattle.play_base.specs.Phases.{AreFirstPlayed}
+use Rattle.play_base.specs.Played.{ArePlayed, IsPlayedOn}
+use Rattle.play_base.specs.Roles.{Scene}
+use Rattle.play_base.proofs.PortLemmas.{one_more_played}
+use Rattle.many_threads.specs.InPlay.{WerePlayedBefore}
 use Rattle.many_threads.proofs.Onward.{each_front, each_last}
 use Rattle.vt_text.specs.declared.sessions.VtPhase.{VtPhase}
 use Rattle.vt_text.specs.Sessions.{vt_phase_of}
 use Rattle.vt_account.specs.Keyed.{all_keys}
-use Rattle.vt_threads.proofs.SeatLemmas.{next_item}
+use Rattle.vt_keyboard.proofs.SeatLemmas.{next_item}
 use Rattle.vt_threads.specs.declared.consoles.Console.{Console}
 use Rattle.vt_play.specs.Parts.{StandAtEnd}
 
@@ -30,25 +29,20 @@ keys_left phases k x below at =
     ap (λ (l : List VtPhase). length (all_keys (map vt_phase_of l))) (next_item phases k x below at)
     ∙ length-append x.keys.items (all_keys (map vt_phase_of (drop (k + 1) phases)))
 
-pub no_keys_left : (phases : List VtPhase) (k : ℕ)
-    → length phases ≤ k
-    → length (all_keys (map vt_phase_of (drop k phases))) ≡ 0
-no_keys_left phases k over = ap (λ (l : List VtPhase). length (all_keys (map vt_phase_of l))) (drop_all k phases over)
-
 -- ---- one console more is ended
 
 pub one_more_ended : (x : PlainSession) (ended : List Console) (c : Console) (runs : List PortRun) (ends : List PortEnd)
     (run : PortRun) (end : PortEnd)
     → (StandAtEnd x ended → AreFirstPlayed x (length ended) runs ends)
-    → ((s : Scene) → StandsBefore s (length s.session.phases) c.station c.end → IsPlayedOn s.port s.session run end)
+    → ((s : Scene) → WerePlayedBefore s (length s.session.phases) c.station c.end → IsPlayedOn s.port s.session run end)
     → StandAtEnd x (ended ++ c ∷ [])
     → AreFirstPlayed x (length (ended ++ c ∷ [])) (runs ++ run ∷ []) (ends ++ end ∷ [])
 one_more_ended x ended c runs ends run end before now stand =
     let front = each_front
-    (λ p (d : Console). StandsBefore (record { port = p; session = x }) (length x.phases) d.station d.end)
+    (λ p (d : Console). WerePlayedBefore (record { port = p; session = x }) (length x.phases) d.station d.end)
     (ended ++ c ∷ []) ended c refl stand in
     let last = each_last
-    (λ p (d : Console). StandsBefore (record { port = p; session = x }) (length x.phases) d.station d.end)
+    (λ p (d : Console). WerePlayedBefore (record { port = p; session = x }) (length x.phases) d.station d.end)
     (ended ++ c ∷ []) ended c refl stand in
     subst (λ (n : ℕ). AreFirstPlayed x n (runs ++ run ∷ []) (ends ++ end ∷ [])) (sym (length-append ended (c ∷ [])))
     (one_more_played x (length ended) runs ends run end (before front)

@@ -23,10 +23,10 @@ use Rattle.vt_consoles.specs.Seats.{BoardSeat, HasAllOf}
 use Rattle.vt_consoles.specs.Shared.{opening_board, seats_of}
 use Rattle.vt_text.specs.declared.sessions.OpCall.{OpCall}
 use Rattle.vt_text.specs.Sessions.{PlainVtPhase, PlainVtSession}
-use Rattle.vt_account.specs.Account.{HasParts, IsPartOf, accepted, call_in, calls_at, calls_by, index_in, indexes_by}
+use Rattle.vt_account.specs.Account.{HasParts, IsPhasePart, granted, call_in, calls_at, calls_by, index_in, indexes_by}
 use Rattle.vt_account.specs.Seats.{operator_names}
 use Rattle.vt_threads.specs.Counting.{count_below}
-use Rattle.vt_threads.specs.Phases.{MadeBy, PhaseMade, key_events}
+use Rattle.vt_keyboard.specs.Phases.{MadeBy, PhaseMade, key_events}
 use Rattle.vt_threads.proofs.Counting.{all_counted}
 use Rattle.vt_play.specs.Stages.{SomeDenied, asked_of}
 use Rattle.vt_play.specs.Phases.{HasBegun, asked_below, asked_in}
@@ -180,7 +180,7 @@ by_place names phase first went a w h m lt = by_case (cases_order m (length name
         let each = events_few o.events in
         let calls = ap (λ (l : List OpCall). length l) o.answers in
         let keys = ap (λ (l : List ℕ). length l) o.no_keys in
-        let few : length o.events ≤ length (flat_map (accepted a.consoles) (calls_at names m phase)) =
+        let few : length o.events ≤ length (flat_map (granted a.consoles) (calls_at names m phase)) =
         omega (arith, each, calls, keys) in
         record { events = o.events; made = o.made; few = omega (arith, few) }
 
@@ -318,7 +318,7 @@ count_within n [] = let none = none_counted n in omega (arith, none)
 count_within n (x ∷ xs) = let r = count_within n xs in let one = (seat_counted n x xs).1 in omega (arith, r, one)
 
 part_asked : (session : PlainVtSession) (phase : PlainVtPhase) (first : ℕ) (part : List VtEntry)
-    → IsPartOf session phase first part
+    → IsPhasePart session phase first part
     → (n : ℕ)
     → asked_below (operator_names session.phases) session.calls.ports phase n ≡ count_below n (stamps part)
 part_asked session phase first part h zero = refl
@@ -332,7 +332,7 @@ part_asked session phase first part h (suc n) =
     omega (arith, r, seat, calls, keys)
 
 part_within : (session : PlainVtSession) (phase : PlainVtPhase) (first : ℕ) (part : List VtEntry)
-    → IsPartOf session phase first part
+    → IsPhasePart session phase first part
     → (n : ℕ)
     → asked_below (operator_names session.phases) session.calls.ports phase n ≤ length part
 part_within session phase first part h n =

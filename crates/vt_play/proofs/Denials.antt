@@ -3,6 +3,7 @@ use Rattle.std.proofs.Common.{◌≡◌, ℕ, ◌+◌, ◌<◌, ◌≤◌, List,
 use Rattle.std.proofs.Common.{ap, ◌∙◌, arith, length-append}
 use Rattle.std.specs.Prelude.{slice_get}
 use Rattle.std.proofs.lemmas.List.{length-map}
+use Rattle.tty_base.specs.Sizes.{MOST_ENTRIES}
 use Rattle.port_cell.specs.declared.kept.Stamped.{Stamped}
 use Rattle.port_cell.specs.Entries.{GoesOn}
 use Rattle.port_cell.specs.Knowledge.{list_seen}
@@ -68,7 +69,7 @@ module _ (of : PhaseOf) (shared : SharedBoard) (seats : List BoardSeat) (w : Boa
       omega (arith, less, named, ports, count, was, more, front, account)
 
   -- a seat that was denied an entry found the board full
-  found_full : SomeDenied shared of.names.now phase seats Full → 4194304 ≤ length w.entries
+  found_full : SomeDenied shared of.names.now phase seats Full → MOST_ENTRIES ≤ length w.entries
   found_full some =
       let has = at_seat (HasAllOf (history_of w)) seats some.place some.seat each some.at in
       let seen = length-map (list_seen some.seat) entry_of in

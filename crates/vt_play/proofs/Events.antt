@@ -6,9 +6,9 @@ use Rattle.vt_consoles.specs.declared.entries.VtEvent.{VtEvent}
 use Rattle.vt_consoles.specs.declared.entries.VtEvent.TheVariants.{Activate, State, Key}
 use Rattle.vt_consoles.specs.Seats.{BoardSeat}
 use Rattle.vt_text.specs.declared.sessions.OpCall.{OpCall}
-use Rattle.vt_account.specs.Account.{accepted, call_in, index_in}
-use Rattle.vt_threads.specs.Operating.{AnswersCalls, AnswersFirst}
-use Rattle.vt_threads.specs.Phases.{key_events}
+use Rattle.vt_account.specs.Account.{granted, call_in, index_in}
+use Rattle.vt_keyboard.specs.Operating.{AnswersCalls, AnswersFirst}
+use Rattle.vt_keyboard.specs.Phases.{key_events}
 
 -- an event answers a call, or is a key's
 pub events_few : (events : List VtEvent)
@@ -20,7 +20,7 @@ events_few (Key index n ∷ events) = let r = events_few events in omega (arith,
 
 pub answers_few : (consoles n : ℕ) (calls : List OpCall) (old new : BoardSeat)
     → (h : AnswersCalls consoles n calls old new)
-    → length h.events ≡ length (flat_map (accepted consoles) calls)
+    → length h.events ≡ length (flat_map (granted consoles) calls)
 answers_few consoles n calls old new h =
     let each = events_few h.events in
     let calls_are = ap (λ (l : List OpCall). length l) h.answers in
@@ -29,12 +29,12 @@ answers_few consoles n calls old new h =
 
 pub first_few : (consoles n : ℕ) (calls : List OpCall) (old new : BoardSeat)
     → (h : AnswersFirst consoles n calls old new)
-    → length h.2.answered.events < length (flat_map (accepted consoles) calls)
+    → length h.2.answered.events < length (flat_map (granted consoles) calls)
 first_few consoles n calls old new h =
     let few = answers_few consoles n h.2.done old new h.2.answered in
-    let all = ap (λ (l : List OpCall). length (flat_map (accepted consoles) l)) h.2.parts in
-    let parts = ap (λ (l : List OpCall). length l) (flat_map-append (accepted consoles) h.2.done h.0) in
-    let size = length-append (flat_map (accepted consoles) h.2.done) (flat_map (accepted consoles) h.0) in
+    let all = ap (λ (l : List OpCall). length (flat_map (granted consoles) l)) h.2.parts in
+    let parts = ap (λ (l : List OpCall). length l) (flat_map-append (granted consoles) h.2.done h.0) in
+    let size = length-append (flat_map (granted consoles) h.2.done) (flat_map (granted consoles) h.0) in
     let left = h.1 in
     omega (arith, few, all, parts, size, left)
 

@@ -12,7 +12,7 @@ use Rattle.vt_consoles.specs.Shared.{IsHere, seats_of}
 use Rattle.vt_text.specs.Sessions.{PlainVtPhase, vt_phase_of, vt_session_of}
 use Rattle.vt_threads.specs.Closing.{SeatsPlayed}
 use Rattle.vt_threads.specs.Parting.{OwnCame}
-use Rattle.vt_threads.specs.declared.keyboard_thread.Keyboard.{Keyboard}
+use Rattle.vt_keyboard.specs.declared.keyboard_thread.Keyboard.{Keyboard}
 use Rattle.vt_threads.specs.declared.parting.Parted.{Parted}
 use Rattle.vt_threads.specs.declared.parting.PartedBack.{PartedBack}
 use Rattle.vt_play.specs.declared.board_threads.BoardHand.{BoardHand}

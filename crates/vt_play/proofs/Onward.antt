@@ -5,9 +5,10 @@ use Rattle.std.proofs.Common.{take, refl, sym, subst, ap, ◌∙◌, arith, leng
 use Rattle.std.specs.Prelude.{slice_get}
 use Rattle.std.proofs.lemmas.Grind.{flat_map-append}
 use Rattle.std.proofs.lemmas.Option.{slice_get_within}
+use Rattle.tty_base.specs.Sizes.{MOST_ENTRIES}
 use Rattle.tty_calls.specs.Sessions.{PlainSession}
-use Rattle.one_thread.specs.declared.phases.Station.{Station}
-use Rattle.many_threads.specs.InPlay.{StandsBefore}
+use Rattle.play_base.specs.declared.stations.Station.{Station}
+use Rattle.many_threads.specs.InPlay.{WerePlayedBefore}
 use Rattle.many_threads.specs.declared.shared_phase.PhaseEnd.{PhaseEnd}
 use Rattle.many_threads.specs.declared.shared_phase.PhaseEnd.TheVariants.{Over, Full}
 use Rattle.many_threads.proofs.Onward.{can_end}
@@ -23,7 +24,7 @@ use Rattle.vt_account.specs.Keyed.{IsWithinKeys, all_keys, console_in, consoles_
 use Rattle.vt_account.specs.Seats.{operator_names}
 use Rattle.vt_threads.specs.Between.{ConsoleStands}
 use Rattle.vt_threads.specs.Parting.{IsPlayedIn}
-use Rattle.vt_threads.specs.Phases.{AddsPart, HasPartsUpTo, PhaseMade}
+use Rattle.vt_keyboard.specs.Phases.{AddsPart, HasPartsUpTo, PhaseMade}
 use Rattle.vt_threads.specs.declared.consoles.Console.{Console}
 use Rattle.vt_threads.specs.declared.parting.PartedBack.{PartedBack}
 use Rattle.vt_threads.proofs.FullConsoles.{full_at_end}
@@ -32,7 +33,7 @@ use Rattle.vt_threads.proofs.SameCallers.{keyed_differs, same_length}
 use Rattle.vt_play.specs.declared.parts.AllParts.{AllParts}
 use Rattle.vt_play.specs.declared.phases.PhaseBack.{PhaseBack}
 use Rattle.vt_play.specs.declared.stage.PhaseOf.{PhaseOf}
-use Rattle.vt_play.specs.Parts.{AreConsolesBefore, ArePlayed, ArePlayedIn, CanEndAll, StandAtEnd, kept_in}
+use Rattle.vt_play.specs.Parts.{AreConsolesBefore, ConsolesArePlayed, ArePlayedIn, CanEndAll, StandAtEnd, kept_in}
 use Rattle.vt_play.specs.Phases.{IsBoardBefore, IsStaged, PhasePlayed, asked_below, asked_in}
 use Rattle.vt_play.proofs.Counts.{asked_more, made_few}
 use Rattle.vt_play.proofs.Listing.{column_length, some_is, there}
@@ -43,10 +44,10 @@ use Rattle.vt_play.proofs.Staging.{keys_more}
 end_stands : (session : PlainVtSession) (p : ℕ) (entries : List VtEntry) (station : Station) (end : PhaseEnd)
     → IsWithinKeys session
     → ConsoleStands (record { port = p; session = keyed session entries }) (length session.phases) station end
-    → StandsBefore (record { port = p; session = keyed session entries }) (length (keyed session entries).phases)
+    → WerePlayedBefore (record { port = p; session = keyed session entries }) (length (keyed session entries).phases)
     station end
 end_stands session p entries station (Over run) within h =
-    subst (λ (n : ℕ). StandsBefore (record { port = p; session = keyed session entries }) n station (Over run))
+    subst (λ (n : ℕ). WerePlayedBefore (record { port = p; session = keyed session entries }) n station (Over run))
     (sym
     (same_length (keyed session entries) session.calls (keyed_differs session entries within.whole) ∙ within.whole)) h
 end_stands session p entries station Full within h =
@@ -126,7 +127,7 @@ module _ (of : PhaseOf) (shared : SharedBoard) (seats : List BoardSeat) (console
   pub played_in : ArePlayedIn of.session.now of.k old.entries adds.part back.all
   played_in = record { bs = pp.came.bs; back = pp.came.back; each = came_in }
 
-  pub played_so : ArePlayed of.session.now of.k back.all
+  pub played_so : ConsolesArePlayed of.session.now of.k back.all
   played_so = record { bs = pp.came.bs; back = pp.came.back; each = λ p b at. (old.entries, adds.part, came_in p b at) }
 
   pub all_known : length back.all.kept.items ≡ vt.calls.ports
@@ -185,7 +186,7 @@ module _ (of : PhaseOf) (shared : SharedBoard) (seats : List BoardSeat) (console
 
 board_new : (session : PlainVtSession)
     → IsWithinKeys session
-    → IsBoard (record { consoles = session.calls.ports; limit = 4194304; entries = [] })
+    → IsBoard (record { consoles = session.calls.ports; limit = MOST_ENTRIES; entries = [] })
 board_new session within = record {
   some = within.calls.some_ports;
   few = within.calls.few_ports;
@@ -196,7 +197,7 @@ board_new session within = record {
 
 pub board_first : (session : PlainVtSession) (b : BoardState)
     → IsWithinKeys session
-    → b ≡ record { consoles = session.calls.ports; limit = 4194304; entries = [] }
+    → b ≡ record { consoles = session.calls.ports; limit = MOST_ENTRIES; entries = [] }
     → IsBoardBefore session 0 0 b
 board_first session b within is =
     subst (IsBoardBefore session 0 0) (sym is)

@@ -2,8 +2,8 @@
 use Rattle.std.proofs.Common.{◌≡◌, ℕ, length, sym, subst, arith, ◌≤◌}
 use Rattle.std.proofs.lemmas.List.{drop_all}
 use Rattle.tty_calls.specs.Sessions.{PlainSession}
-use Rattle.one_thread.specs.Played.{ArePlayed}
-use Rattle.one_thread.specs.declared.playing.Played.{Played}
+use Rattle.play_base.specs.Played.{ArePlayed}
+use Rattle.play_base.specs.declared.ports.Played.{Played}
 use Rattle.vt_consoles.specs.Boards.{BoardState}
 use Rattle.vt_consoles.specs.Runs.{IsBoardRun}
 use Rattle.vt_text.specs.Sessions.{PlainVtSession}

@@ -1,66 +1,26 @@
 -- What the consoles' own threads come to, one console after the other.
-use Rattle.std.proofs.Common.{◌≡◌, ℕ, List, [], ◌∷◌, ◌++◌, Option, None, Some, length}
+use Rattle.std.proofs.Common.{◌≡◌, ℕ, List, [], ◌∷◌, ◌++◌, Option, Some, length}
 use Rattle.std.proofs.Common.{sym, subst, ap, ◌∙◌, ◌⊎◌, inl, inr, arith, length-append}
 use Rattle.std.specs.Prelude.{IfOk, Result, Ok, Err, slice_get}
 use Rattle.std.proofs.lemmas.Option.{slice_get_within}
-use Rattle.one_thread.proofs.PortLemmas.{last_or}
+use Rattle.play_base.proofs.PortLemmas.{last_or}
 use Rattle.tty_calls.specs.declared.sessions.Script.{Script}
 use Rattle.tty_port.specs.declared.shared.SharedPort.{SharedPort}
-use Rattle.many_threads.specs.Callers.{CallersCome, plain_cast}
-use Rattle.many_threads.specs.Comings.{FlusherComes}
+use Rattle.many_threads.specs.Callers.{plain_cast}
 use Rattle.many_threads.specs.declared.caller_threads.CallersBack.{CallersBack}
 use Rattle.many_threads.specs.declared.thread_bodies.FlusherBack.{FlusherBack}
 use Rattle.many_threads.proofs.Onward.{each_front, each_last}
-use Rattle.one_thread.specs.declared.roles.Role.{Role}
 use Rattle.vt_threads.specs.Parting.{OwnCame}
 use Rattle.vt_threads.specs.declared.parting.OwnSeats.{OwnSeats}
 use Rattle.vt_threads.specs.declared.parting.Casting.{Casting}
 use Rattle.vt_play.specs.declared.stage.Stage.{Stage}
 use Rattle.vt_play.specs.declared.board_threads.BoardHand.{BoardHand}
 use Rattle.vt_play.specs.declared.console_threads.ThreadsBack.{ThreadsBack}
-use Rattle.vt_play.specs.Stages.{BoardComes, CanOwn, CanOwnAt, CanPlayOwn}
+use Rattle.vt_play.specs.Stages.{BoardComes, CanOwn, CanOwnAt}
 use Rattle.vt_play.specs.Stages.{CanPlayOwns, OwnCameAt, OwnsCame, ThreadsCome}
 use Rattle.vt_play.proofs.Listing.{same_there, some_is}
 
 -- ---- one console
-
-pub can_own_shared : (port : Option SharedPort) (own : Option OwnSeats) (shared : SharedPort) (seats : OwnSeats)
-    (scripts : List Script) (cast : List (Option Role))
-    → port ≡ Some shared
-    → own ≡ Some seats
-    → CanOwn port own scripts cast
-    → CanPlayOwn shared seats scripts cast
-can_own_shared port own shared seats scripts cast is are h =
-    subst (λ (o : Option OwnSeats). CanOwn (Some shared) o scripts cast) are
-    (subst (λ (o : Option SharedPort). CanOwn o own scripts cast) is h)
-
-pub own_not_shared : (port : Option SharedPort) (own : Option OwnSeats) (scripts : List Script)
-    (cast : List (Option Role))
-    → port ≡ None
-    → OwnCame port own (plain_cast scripts cast) None
-own_not_shared port own scripts cast is =
-    subst (λ (o : Option SharedPort). OwnCame o own (plain_cast scripts cast) None) (sym is) tt
-
-pub own_without : (port : Option SharedPort) (own : Option OwnSeats) (shared : SharedPort) (scripts : List Script)
-    (cast : List (Option Role))
-    → port ≡ Some shared
-    → own ≡ None
-    → OwnCame port own (plain_cast scripts cast) None
-own_without port own shared scripts cast is none =
-    subst (λ (o : Option SharedPort). OwnCame o own (plain_cast scripts cast) None) (sym is)
-    (subst (λ (o : Option OwnSeats). OwnCame (Some shared) o (plain_cast scripts cast) None) (sym none) tt)
-
-pub own_came : (port : Option SharedPort) (own : Option OwnSeats) (shared : SharedPort) (seats : OwnSeats)
-    (scripts : List Script) (cast : List (Option Role)) (back : FlusherBack × CallersBack)
-    → port ≡ Some shared
-    → own ≡ Some seats
-    → FlusherComes shared seats.run seats.flusher back.0
-    → CallersCome shared (plain_cast scripts cast) back.1
-    → OwnCame port own (plain_cast scripts cast) (Some back)
-own_came port own shared seats scripts cast back is are flushed called =
-    subst (λ (o : Option SharedPort). OwnCame o own (plain_cast scripts cast) (Some back)) (sym is)
-    (subst (λ (o : Option OwnSeats). OwnCame (Some shared) o (plain_cast scripts cast) (Some back)) (sym are)
-    (record { flushed = flushed; called = called }))
 
 -- what came of the console at a place
 pub own_at : (stage : Stage) (p : ℕ) (own : Option OwnSeats) (back : Option (FlusherBack × CallersBack))
@@ -75,32 +35,7 @@ own_at stage p own back port casting at_port at_casting h port' casting' also_po
     (subst (λ (c : Casting). OwnCame port own (plain_cast stage.scripts.now c.cast.items) back)
     (same_there stage.castings.now p casting casting' at_casting also_casting) h)
 
-pub own_at_ok : {E : Type 0} (stage : Stage) (p : ℕ) (own : Option OwnSeats)
-    (r : Result (Option (FlusherBack × CallersBack)) E) (port : Option SharedPort) (casting : Casting)
-    → slice_get stage.ports.now p ≡ Some port
-    → slice_get stage.castings.now p ≡ Some casting
-    → IfOk r (OwnCame port own (plain_cast stage.scripts.now casting.cast.items))
-    → IfOk r (OwnCameAt stage p own)
-own_at_ok stage p own (Ok back) port casting at_port at_casting h =
-    own_at stage p own back port casting at_port at_casting h
-own_at_ok stage p own (Err e) port casting at_port at_casting h = tt
-
 -- ---- consoles one after the other
-
-pub owns_none : (stage : Stage) (owns : List (Option OwnSeats)) (backs : List (Option (FlusherBack × CallersBack)))
-    → owns ≡ []
-    → backs ≡ []
-    → OwnsCame stage owns backs
-owns_none stage owns backs none no_backs = record {
-  count =
-      ap (λ (l : List (Option (FlusherBack × CallersBack))). length l) no_backs
-      ∙ ap (λ (l : List (Option OwnSeats)). length l) (sym none);
-  each = λ p own back at at_back.
-      absurd (nothing p own (ap (λ (l : List (Option OwnSeats)). slice_get l p) (sym none) ∙ at));
-}
-  where
-    nothing : (p : ℕ) (own : Option OwnSeats) → slice_get [] p ≡ Some own → ⊥
-    nothing p own h = cc
 
 module _ (stage : Stage) (owns others : List (Option OwnSeats)) (own : Option OwnSeats)
     (split : owns ≡ others ++ own ∷ []) where

@@ -13,7 +13,7 @@ use Rattle.vt_consoles.specs.Shared.{AreHere, opening_board, seats_of}
 use Rattle.vt_text.specs.declared.sessions.VtSession.{VtSession}
 use Rattle.vt_text.specs.Sessions.{PlainVtSession, vt_phase_of, vt_session_of}
 use Rattle.vt_account.specs.Keyed.{IsWithinKeys, all_keys}
-use Rattle.vt_threads.specs.Phases.{PhaseMade}
+use Rattle.vt_keyboard.specs.Phases.{PhaseMade}
 use Rattle.vt_threads.specs.Parting.{IsSomeConsoleBefore}
 use Rattle.vt_threads.specs.declared.consoles.Console.{Console}
 use Rattle.vt_threads.specs.declared.parting.Parted.{Parted}
@@ -22,7 +22,7 @@ use Rattle.vt_play.specs.declared.parts.AllParts.{AllParts}
 use Rattle.vt_play.specs.declared.phases.PhaseBack.{PhaseBack}
 use Rattle.vt_play.specs.declared.phases.VtInPlay.{VtInPlay}
 use Rattle.vt_play.specs.declared.stage.PhaseOf.{PhaseOf}
-use Rattle.vt_play.specs.Parts.{AreConsolesBefore, ArePartedAll, ArePartsOf, ArePlayed, ArePlayedIn}
+use Rattle.vt_play.specs.Parts.{AreConsolesBefore, ArePartedAll, ArePartsOf, ConsolesArePlayed, ArePlayedIn}
 use Rattle.vt_play.specs.Phases.{IsBoardBefore, IsClosed, IsPhaseOf, IsStaged, IsVtBefore, PhaseLeaves, PhasePlayed}
 use Rattle.vt_play.proofs.Onward.{adds, all_known, board_next, played_in, played_so}
 
@@ -44,10 +44,6 @@ phase_below session k within below =
     let whole : length (vt_session_of session).calls.phases ≡ length (vt_session_of session).phases = within.whole in
     let size = length-map session.phases.items vt_phase_of in
     omega (arith, below, whole, size)
-
-pub seats_few : (of : PhaseOf) → IsPhaseOf of → length of.names.now < 4096
-seats_few of h =
-    let few = h.within.few_seats in let is = ap (λ (l : List (List ℕ)). length l) h.names_are in omega (arith, few, is)
 
 pub staged_so : (of : PhaseOf) (board kept : BoardState) (consoles : List Console) (shared : SharedBoard)
     (seats : List BoardSeat) (parts : AllParts) (n : ℕ)
@@ -94,8 +90,8 @@ module _ (of : PhaseOf) (shared : SharedBoard) (seats : List BoardSeat) (console
   made : PhaseMade of.names.now pp.phase of.first pp.went (opening_board shared) board
   made = closed.phase of.names.now pp.phase of.first pp.went pp.seats
 
-  pub whole_so : ArePlayed of.session.now of.k all
-  whole_so = subst (ArePlayed of.session.now of.k) (sym closed.all_are)
+  pub whole_so : ConsolesArePlayed of.session.now of.k all
+  whole_so = subst (ConsolesArePlayed of.session.now of.k) (sym closed.all_are)
       (played_so of shared seats consoles parts h back pp board made)
 
   pub whole_known : length all.kept.items ≤ vt.calls.ports

@@ -6,10 +6,10 @@ use Rattle.tty_base.specs.declared.characters.Flagged.{Flagged}
 use Rattle.word_ring.specs.Ends.{PutterState}
 use Rattle.uart_line.specs.LineState.{LineState}
 use Rattle.tty_calls.specs.Sessions.{ticks_on}
-use Rattle.journal_check.specs.Legal.{phase_at}
-use Rattle.one_thread.specs.Roles.{Scene}
-use Rattle.one_thread.specs.Casting.{scripts_at}
-use Rattle.one_thread.specs.declared.phases.Station.{Station}
+use Rattle.legal_runs.specs.Legal.{phase_at}
+use Rattle.play_base.specs.Roles.{Scene}
+use Rattle.play_base.specs.Casting.{scripts_at}
+use Rattle.play_base.specs.declared.stations.Station.{Station}
 use Rattle.tty_port.specs.Calls.{PortSeat}
 use Rattle.tty_port.specs.Seen.{marks_at}
 use Rattle.tty_port.specs.Shared.{IsHere, name_of_port}
@@ -29,11 +29,11 @@ use Rattle.vt_text.specs.declared.sessions.VtSession.{VtSession}
 use Rattle.vt_text.specs.Sessions.{PlainVtPhase, PlainVtSession, vt_session_of}
 use Rattle.vt_account.specs.Keyed.{IsWithinKeys, all_keys, consoles_in, key_line, keyed, keys_to}
 use Rattle.vt_threads.specs.Between.{ConsoleStands, IsConsoleBefore}
-use Rattle.vt_threads.specs.Consoles.{CanEndConsole, CanEndIf, CanEndLine}
+use Rattle.vt_keyboard.specs.Consoles.{CanEndConsole, CanEndIf, CanEndLine}
 use Rattle.vt_threads.specs.Halves.{with_steps}
-use Rattle.vt_threads.specs.Keying.{CanBegin}
+use Rattle.vt_keyboard.specs.Keying.{CanBegin}
 use Rattle.vt_threads.specs.Parting.{IsParted, IsPartedFull, IsPartedShared, PartedAs}
-use Rattle.vt_threads.specs.declared.console_ends.KeySeats.{KeySeats}
+use Rattle.vt_keyboard.specs.declared.console_ends.KeySeats.{KeySeats}
 use Rattle.vt_threads.specs.declared.consoles.Console.{Console}
 use Rattle.vt_threads.specs.declared.parting.OwnSeats.{OwnSeats}
 use Rattle.vt_threads.specs.declared.parting.Parted.{Parted}

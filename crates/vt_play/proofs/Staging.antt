@@ -1,9 +1,9 @@
 -- The threads of a phase can play, once the board is shared and all consoles are parted.
-use Rattle.std.proofs.Common.{◌≡◌, ℕ, zero, suc, ◌+◌, ◌<◌, ◌≤◌, List, [], ◌∷◌, ◌++◌, Option}
+use Rattle.std.proofs.Common.{◌≡◌, ℕ, zero, suc, ◌+◌, ◌^◌, ◌<◌, ◌≤◌, List, [], ◌∷◌, ◌++◌, Option}
 use Rattle.std.proofs.Common.{Some, length, map, take, refl, sym, subst, ap, ◌∙◌, arith, length-append, add-one}
 use Rattle.std.specs.Prelude.{slice_get}
 use Rattle.std.proofs.lemmas.Option.{slice_get_within}
-use Rattle.journal_check.proofs.NameLemmas.{get_append, get_past}
+use Rattle.legal_runs.proofs.NameLemmas.{get_append, get_past}
 use Rattle.tty_base.specs.declared.characters.Flagged.{Flagged}
 use Rattle.word_ring.specs.Ends.{PutterState}
 use Rattle.uart_line.specs.LineState.{LineState}
@@ -15,9 +15,9 @@ use Rattle.vt_consoles.specs.Seats.{BoardSeat}
 use Rattle.vt_consoles.specs.Shared.{AreHere, opening_board}
 use Rattle.vt_text.specs.Sessions.{PlainVtPhase, PlainVtSession, vt_phase_of, vt_session_of}
 use Rattle.vt_account.specs.Keyed.{all_keys}
-use Rattle.vt_threads.specs.Consoles.{CanEndIf, CanKeyAll}
-use Rattle.vt_threads.specs.Keying.{CanBegin}
-use Rattle.vt_threads.specs.declared.console_ends.KeySeats.{KeySeats}
+use Rattle.vt_keyboard.specs.Consoles.{CanEndIf, CanKeyAll}
+use Rattle.vt_keyboard.specs.Keying.{CanBegin}
+use Rattle.vt_keyboard.specs.declared.console_ends.KeySeats.{KeySeats}
 use Rattle.vt_threads.specs.declared.consoles.Console.{Console}
 use Rattle.vt_threads.specs.declared.parting.OwnSeats.{OwnSeats}
 use Rattle.vt_threads.specs.declared.parting.Parted.{Parted}
@@ -192,7 +192,7 @@ module _ (of : PhaseOf) (board : SharedBoard) (seats : List BoardSeat) (consoles
   -- ---- the board
 
   -- the index of each key can be counted
-  indexes : stage.first + length phase.keys < 4294967296
+  indexes : stage.first + length phase.keys < 2 ^ 32
   indexes =
       let more = keys_more vt.phases of.k phase g.phase_is in
       let few = keys_front vt.phases (of.k + 1) in

@@ -1,5 +1,5 @@
 -- What the functions of a phase hand on to one another.
-use Rattle.std.proofs.Common.{◌≡◌, ℕ, ◌+◌, ◌<◌, List, [], ◌∷◌, ◌++◌, Some, Result, Ok, Err, Vec, Global}
+use Rattle.std.proofs.Common.{◌≡◌, ℕ, ◌+◌, ◌^◌, ◌<◌, List, [], ◌∷◌, ◌++◌, Some, Result, Ok, Err, Vec, Global}
 use Rattle.std.proofs.Common.{length, sym, subst, ap, ◌∙◌, arith, length-append, take}
 use Rattle.std.specs.Prelude.{IfOk, slice_get}
 use Rattle.tty_calls.specs.declared.answers.Denied.{Denied}
@@ -78,7 +78,7 @@ pub next_first_is : (of : PhaseOf) (phases : List VtPhase) (x : VtPhase) (n : �
     → slice_get phases of.k ≡ Some x
     → n ≡ length x.keys.items
     → (of.first + n ≡ length (all_keys (take (of.k + 1) (vt_session_of of.session.now).phases)))
-    × (of.first + n < 4294967296)
+    × (of.first + n < 2 ^ 32)
 next_first_is of phases x n h first are at count =
     let vt = vt_session_of of.session.now in
     let there : slice_get vt.phases of.k ≡ Some (vt_phase_of x) =
@@ -91,7 +91,8 @@ next_first_is of phases x n h first are at count =
 
 -- what the threads of a phase left, where the board was kept beside it
 pub phase_left : {E F : Type 0} (of : PhaseOf) (consoles : List Console)
-    (staged : Result (SharedBoard × Vec BoardSeat Global × AllParts) E) (now : SharedBoard) (seats : Vec BoardSeat Global)
+    (staged : Result (SharedBoard × Vec BoardSeat Global × AllParts) E) (now : SharedBoard)
+    (seats : Vec BoardSeat Global)
     (parts : AllParts) (played : Result PhaseBack F) (both : Result (SharedBoard × PhaseBack) F) (shared : SharedBoard)
     (back : PhaseBack)
     → staged ≡ Ok (now, seats, parts)

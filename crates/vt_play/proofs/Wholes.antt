@@ -11,7 +11,7 @@ use Rattle.vt_threads.specs.Parting.{IsPlayed, IsPlayedIn}
 use Rattle.vt_threads.specs.declared.consoles.Console.{Console}
 use Rattle.vt_threads.specs.declared.parting.PartedBack.{PartedBack}
 use Rattle.vt_play.specs.declared.parts.AllBack.{AllBack}
-use Rattle.vt_play.specs.Parts.{AreBackOf, AreConsolesBefore, ArePlayed, ArePlayedIn, kept_in}
+use Rattle.vt_play.specs.Parts.{AreBackOf, AreConsolesBefore, ConsolesArePlayed, ArePlayedIn, kept_in}
 use Rattle.vt_play.proofs.Listing.{column_length, split_last}
 
 pub some_left : (n : ℕ) (none : Bool) → none ≡ (n == 0) → none ≡ false → 0 < n
@@ -33,7 +33,7 @@ front_count front all h = column_length (λ (b : PartedBack). kept_in b.rest) al
 module _ (session : VtSession) (k : ℕ) (bs front : List PartedBack) (last : PartedBack) (is : bs ≡ front ++ last ∷ [])
     (now : AllBack) (back : AreBackOf front now) where
   pub others_played : ((p : ℕ) (b : PartedBack) → slice_get bs p ≡ Some b → IsPlayed session p k b)
-      → ArePlayed session k now
+      → ConsolesArePlayed session k now
   others_played each =
       record { bs = front; back = back; each = each_front (λ p. IsPlayed session p k) bs front last is each }
 
@@ -71,7 +71,7 @@ consoles_more session k entries now consoles c n added count before one =
 -- one console less
 pub record IsLess (session : VtSession) (k : ℕ) (all now : AllBack) (one : PartedBack) : Type 0 where
   pub count : length all.kept.items ≡ length now.kept.items + 1
-  pub others : ArePlayed session k now
+  pub others : ConsolesArePlayed session k now
   pub last : IsPlayed session (length now.kept.items) k one
   pub others_so : (entries part : List VtEntry)
       → ArePlayedIn session k entries part all
@@ -98,7 +98,7 @@ module _ (session : VtSession) (k : ℕ) (all now : AllBack) (one : PartedBack) 
   at_last P front last is back h =
       subst (λ (n : ℕ). P n one) (sym (front_count front now back)) (subst (P (length front)) (sym is) h)
 
-  pub is_less : ArePlayed session k all → IsLess session k all now one
+  pub is_less : ConsolesArePlayed session k all → IsLess session k all now one
   is_less h =
       let s = took_last h.bs h.back in
       record {

@@ -2,7 +2,7 @@
 use Rattle.std.specs.Prelude.{◌≡◌, ℕ, List, Some, length, map, slice_get}
 use Rattle.tty_calls.specs.declared.sessions.Session.{Session}
 use Rattle.tty_calls.specs.Sessions.{PlainSession}
-use Rattle.many_threads.specs.InPlay.{CanEnd, StandsBefore}
+use Rattle.many_threads.specs.InPlay.{CanEnd, WerePlayedBefore}
 use Rattle.vt_consoles.specs.declared.entries.VtEntry.{VtEntry}
 use Rattle.vt_text.specs.declared.sessions.VtSession.{VtSession}
 use Rattle.vt_text.specs.Sessions.{PlainVtSession}
@@ -60,7 +60,7 @@ pub record ArePlayedIn (session : VtSession) (k : ℕ) (entries part : List VtEn
   pub back : AreBackOf bs all
   pub each : Places (λ p. IsPlayedIn session p k entries part) bs
 
-pub record ArePlayed (session : VtSession) (k : ℕ) (all : AllBack) : Type 0 where
+pub record ConsolesArePlayed (session : VtSession) (k : ℕ) (all : AllBack) : Type 0 where
   pub bs : List PartedBack
   pub back : AreBackOf bs all
   pub each : Places (λ p. IsPlayed session p k) bs
@@ -73,4 +73,4 @@ CanEndAll consoles = Places (λ p (c : Console). CanEnd c.station c.end) console
 -- each console stands at the end of its port's session
 abbrev pub StandAtEnd : PlainSession → List Console → Type 0
 StandAtEnd x consoles = Places
-    (λ p (c : Console). StandsBefore (record { port = p; session = x }) (length x.phases) c.station c.end) consoles
+    (λ p (c : Console). WerePlayedBefore (record { port = p; session = x }) (length x.phases) c.station c.end) consoles

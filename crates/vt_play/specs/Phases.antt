@@ -1,7 +1,8 @@
 -- A phase of all consoles and of their board, from its beginning to the beginning of the next.
 use Rattle.std.specs.Prelude.{◌≡◌, ℕ, ◌+◌, ◌<◌, ◌≤◌, zero, suc, List, [], ◌∷◌, Option, Some}
 use Rattle.std.specs.Prelude.{Ok, IfErr, OnOk, length, slice_get, take}
-use Rattle.one_thread.specs.Casting.{scripts_at}
+use Rattle.tty_base.specs.Sizes.{MOST_ENTRIES}
+use Rattle.play_base.specs.Casting.{scripts_at}
 use Rattle.tty_port.specs.declared.shared.SharedPort.{SharedPort}
 use Rattle.many_threads.specs.Callers.{plain_cast}
 use Rattle.port_cell.specs.Knowledge.{number_of}
@@ -17,9 +18,9 @@ use Rattle.vt_text.specs.Sessions.{PlainVtPhase, PlainVtSession, vt_phase_of, vt
 use Rattle.vt_account.specs.Keyed.{IsWithinKeys, all_keys, consoles_in, keys_to}
 use Rattle.vt_account.specs.Seats.{operator_names}
 use Rattle.vt_threads.specs.Closing.{MadeSince, SeatsPlayed}
-use Rattle.vt_threads.specs.Consoles.{ConsoleComesIf}
+use Rattle.vt_keyboard.specs.Consoles.{ConsoleComesIf}
 use Rattle.vt_threads.specs.Parting.{OwnCame}
-use Rattle.vt_threads.specs.Phases.{HasPartsUpTo, PhaseMade}
+use Rattle.vt_keyboard.specs.Phases.{HasPartsUpTo, PhaseMade}
 use Rattle.vt_threads.specs.declared.consoles.Console.{Console}
 use Rattle.vt_threads.specs.declared.parting.Parted.{Parted}
 use Rattle.vt_threads.specs.declared.parting.PartedBack.{PartedBack}
@@ -52,7 +53,7 @@ asked_in session (phase ∷ phases) =
 pub record IsBoardBefore (session : PlainVtSession) (k first : ℕ) (b : BoardState) : Type 0 where
   pub board : IsBoard b
   pub consoles : b.consoles ≡ session.calls.ports
-  pub limit : b.limit ≡ 4194304
+  pub limit : b.limit ≡ MOST_ENTRIES
   pub first_is : first ≡ length (all_keys (take k session.phases))
   pub keys : length (consoles_in b.entries) ≡ length (all_keys (take k session.phases))
   pub parts : HasPartsUpTo session k first b.entries

@@ -1,11 +1,12 @@
 -- What the threads of a phase need, and what comes of them: the consoles' own, the operators' and the keyboard's.
 use Rattle.std.specs.Prelude.{◌≡◌, ℕ, ◌+◌, ◌<◌, ◌≤◌, ◌^◌, ◌==◌, List, [], ◌∷◌, ◌++◌, Option, None, Some}
 use Rattle.std.specs.Prelude.{Result, Ok, Err, IfErr, OnErr, OnOk, flat_map, if◌then◌else◌, length, slice_get}
+use Rattle.tty_base.specs.Sizes.{MOST_SEATS}
 use Rattle.tty_calls.specs.declared.answers.Denied.{Denied}
 use Rattle.tty_calls.specs.declared.sessions.Script.{Script}
 use Rattle.tty_port.specs.Shared as ports
 use Rattle.tty_port.specs.declared.shared.SharedPort.{SharedPort}
-use Rattle.one_thread.specs.declared.roles.Role.{Role}
+use Rattle.play_base.specs.declared.roles.Role.{Role}
 use Rattle.many_threads.specs.declared.caller_threads.CallersBack.{CallersBack}
 use Rattle.many_threads.specs.declared.thread_bodies.FlusherBack.{FlusherBack}
 use Rattle.many_threads.specs.Callers.{CanPlayAll, plain_cast}
@@ -18,9 +19,9 @@ use Rattle.vt_consoles.specs.Histories.{board_with, history_of}
 use Rattle.vt_consoles.specs.Seats.{BoardSeat}
 use Rattle.vt_consoles.specs.Shared.{IsHere, name_of_board, opening_board}
 use Rattle.vt_text.specs.Sessions.{PlainVtPhase, vt_phase_of}
-use Rattle.vt_account.specs.Account.{accepted, calls_at}
+use Rattle.vt_account.specs.Account.{granted, calls_at}
 use Rattle.vt_threads.specs.Closing.{MadeSince, OperatorPlayed}
-use Rattle.vt_threads.specs.Consoles.{CanKeyAll, PlaysFirst, PlaysKeyboard}
+use Rattle.vt_keyboard.specs.Consoles.{CanKeyAll, PlaysFirst, PlaysKeyboard}
 use Rattle.vt_threads.specs.Parting.{OwnCame}
 use Rattle.vt_threads.specs.declared.parting.OwnSeats.{OwnSeats}
 use Rattle.vt_threads.specs.declared.parting.Casting.{Casting}
@@ -36,7 +37,7 @@ use Rattle.vt_play.specs.declared.console_threads.ThreadsBack.{ThreadsBack}
 
 abbrev pub asked_of : (names : List (List ℕ)) → (consoles : ℕ) → PlainVtPhase → (seat : ℕ) → ℕ
 asked_of names consoles phase seat =
-    length (flat_map (accepted consoles) (calls_at names seat phase))
+    length (flat_map (granted consoles) (calls_at names seat phase))
     + (if length names == seat then length phase.keys else 0)
 
 -- ---- an operator
@@ -62,7 +63,7 @@ pub record IsStoppedAt (b : SharedBoard) (names : List (List ℕ)) (phase : Plai
 pub record OperatorBegan (b : SharedBoard) (names : List (List ℕ)) (phase : PlainVtPhase) (s : BoardSeat) : Type 0 where
   pub events : List VtEvent
   pub made : MadeSince (history_of (opening_board b)) s events
-  pub few : length events ≤ length (flat_map (accepted (opening_board b).consoles) (calls_at names (number_of s) phase))
+  pub few : length events ≤ length (flat_map (granted (opening_board b).consoles) (calls_at names (number_of s) phase))
 
 pub record OperatorComes (b : SharedBoard) (names : List (List ℕ)) (phase : PlainVtPhase) (n : ℕ)
     (back : OperatorBack) : Type 0 where
@@ -77,7 +78,7 @@ pub record OperatorComes (b : SharedBoard) (names : List (List ℕ)) (phase : Pl
 -- the lines of all consoles can take the phase's keys, and end
 pub record CanKey (stage : Stage) (hand : KeyHand) : Type 0 where
   pub fresh : IsFresh stage.board.now (length stage.names.now) hand.seat
-  pub few : length stage.names.now < 4096
+  pub few : length stage.names.now < MOST_SEATS
   pub indexes : stage.first + length (vt_phase_of stage.phase.now).keys < 2 ^ 32
   pub can : CanKeyAll (name_of_board stage.board.now).consoles (length (vt_phase_of stage.phase.now).keys)
       stage.ports.now hand.keyboard.seats.items hand.keyboard.keyed.lines.items hand.keyboard.keyed.ends.items

@@ -12,8 +12,8 @@ use tty_base::NoMemory;
 use tty_calls::{Denied, Names};
 use tty_port::Gate;
 use vt_consoles::{Seat, SharedBoard};
+use vt_keyboard::{KeyWork, Keyboard, operate, play_keyboard};
 use vt_text::VtPhase;
-use vt_threads::{KeyWork, Keyboard, operate, play_keyboard};
 
 /// What an operator's thread brings back.
 #[derive(Drop)]

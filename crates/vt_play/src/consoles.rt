@@ -1,17 +1,17 @@
 //! The consoles of a session from their opening to their end.
 
-ghost use Rattle.std.specs.Prelude.{◌≡◌, ◌^◌, ◌<◌, [], ℕ, IfOk, Some, length, map, slice_get};
+ghost use Rattle.std.specs.Prelude.{◌≡◌, ◌^◌, ◌<◌, [], IfOk, length, map};
 ghost use Rattle.tty_calls.specs.Sessions.{PlainSession};
-ghost use Rattle.one_thread.specs.Played.{ArePlayed, IsPlayedOn};
-ghost use Rattle.one_thread.specs.Roles.{Scene};
-ghost use Rattle.many_threads.specs.InPlay.{CanEnd, StandsBefore};
+ghost use Rattle.play_base.specs.Played.{ArePlayed, IsPlayedOn};
+ghost use Rattle.play_base.specs.Roles.{Scene};
+ghost use Rattle.many_threads.specs.InPlay.{CanEnd, WerePlayedBefore};
 ghost use Rattle.vt_text.specs.Sessions.{vt_phase_of, vt_session_of};
 ghost use Rattle.vt_account.specs.Keyed.{IsWithinKeys, all_keys};
 ghost use Rattle.vt_threads.specs.declared.consoles.Console.{Console};
 ghost use Rattle.vt_play.specs.Parts.{AreConsolesBefore, CanEndAll, StandAtEnd};
 
-use many_threads::PhaseEnd;
-use one_thread::{Played, Station, hang_up, stop};
+use many_threads::end_port;
+use play_base::Played;
 use std::alloc::Global;
 use tty_base::{Buffer, NoMemory};
 use tty_calls::{PortEnd, PortRun};
@@ -48,7 +48,7 @@ pub(crate) fn open_all(alloc: Global, session: &VtSession) -> Result<Vec<Console
 fn end_console(console: Console) -> Result<(PortRun, PortEnd), NoMemory>
     requires { CanEnd console.station console.end }
     ensures { (s : Scene)
-        → StandsBefore s (length s.session.phases) console.station console.end
+        → WerePlayedBefore s (length s.session.phases) console.station console.end
         → IfOk result (λ played. IsPlayedOn s.port s.session played.0 played.1) }
 {
     let Console {
@@ -57,16 +57,7 @@ fn end_console(console: Console) -> Result<(PortRun, PortEnd), NoMemory>
         station,
         end,
     } = console;
-    let Station {
-        port,
-        putter,
-        line,
-        steps: _,
-    } = station;
-    match end {
-        PhaseEnd::Over(_) => hang_up(port, putter, line),
-        PhaseEnd::Full => Ok(stop(port, putter, line)),
-    }
+    end_port(station, end)
 }
 
 /// Ends all consoles.

@@ -7,6 +7,7 @@ mod board_threads;
 mod console_making;
 mod console_threads;
 mod consoles;
+mod on_threads;
 mod operator_threads;
 mod parts;
 mod phase_play;
@@ -15,7 +16,6 @@ mod playing;
 mod session_play;
 mod stage;
 mod taking;
-mod threads_play;
 mod whole_consoles;
 
 pub use session_play::play_vt;

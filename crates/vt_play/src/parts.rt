@@ -13,10 +13,9 @@ use crate::taking::push_beside;
 use std::alloc::Global;
 use tty_base::NoMemory;
 use tty_port::SharedPort;
+use vt_keyboard::{KeyLines, Keyboard};
 use vt_text::VtSession;
-use vt_threads::{
-    Casting, Console, KeyLines, Keyboard, OwnSeats, Parted, Rest, Standing, part_console,
-};
+use vt_threads::{Casting, Console, OwnSeats, Parted, Rest, Standing, part_console};
 
 /// What of a console the threads of a phase do not even see.
 #[derive(Drop)]

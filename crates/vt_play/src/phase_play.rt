@@ -7,10 +7,10 @@ ghost use Rattle.vt_account.specs.Keyed.{IsWithinKeys};
 ghost use Rattle.vt_account.specs.Seats.{operator_names};
 ghost use Rattle.vt_play.specs.Phases.{IsVtBefore};
 
+use crate::on_threads::play_shared;
 use crate::phases::{VtInPlay, close_all, next_first, share_all};
 use crate::stage::PhaseOf;
 use crate::taking::or_denied;
-use crate::threads_play::play_shared;
 use crate::whole_consoles::whole_all;
 use many_threads::beside;
 use std::alloc::Global;

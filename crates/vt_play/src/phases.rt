@@ -19,7 +19,7 @@ use crate::parts::{AllBack, AllParts, Kept, part_all};
 use crate::stage::{PhaseOf, Stage};
 use crate::taking::{at, both};
 use many_threads::{Start, beside};
-use one_thread::scripts_of;
+use play_base::scripts_of;
 use std::alloc::Global;
 use tty_base::NoMemory;
 use tty_calls::Denied;
@@ -146,9 +146,9 @@ fn end_denied(of: PhaseOf<'_>, shared: SharedBoard, seats: Vec<Seat>, denied: De
         → SomeDenied shared of.entry.names.now phase seats.items denied)
         → IsBoardDenied (vt_session_of of.entry.session.now) denied }
 {
-    let _of = of;
+    let _of = of; // for the contract alone
     let board = shared.close(seats);
-    let _entries = board.entries();
+    let _entries = board.entries(); // known: the entries are a board run
     denied
 }
 

@@ -11,12 +11,10 @@ use crate::phases::VtInPlay;
 use many_threads::beside;
 use std::alloc::Global;
 use tty_base::NoMemory;
+use tty_base::sizes::MOST_ENTRIES;
 use vt_consoles::Board;
 use vt_one::VtPlayed;
 use vt_text::VtSession;
-
-/// How many entries a board may have.
-const MOST_ENTRIES: u32 = 4_194_304;
 
 /// A session of consoles before its first phase.
 pub(crate) fn open(alloc: Global, session: &VtSession) -> Result<VtInPlay, NoMemory>

@@ -5,7 +5,7 @@ ghost use Rattle.vt_consoles.specs.declared.entries.VtEntry.{VtEntry};
 ghost use Rattle.vt_text.specs.Sessions.{vt_session_of};
 ghost use Rattle.vt_account.specs.Keyed.{IsWithinKeys};
 ghost use Rattle.vt_threads.specs.declared.parting.PartedBack.{PartedBack};
-ghost use Rattle.vt_play.specs.Parts.{AreBackOf, AreConsolesBefore, ArePlayed, ArePlayedIn};
+ghost use Rattle.vt_play.specs.Parts.{AreBackOf, AreConsolesBefore, ConsolesArePlayed, ArePlayedIn};
 
 use crate::parts::{AllBack, Kept};
 use crate::taking::take_last;
@@ -53,7 +53,7 @@ pub(crate) fn whole_all(
     requires within { IsWithinKeys (vt_session_of session.now) }
     requires phase { k < length (vt_session_of session.now).calls.phases }
     requires known { length all.kept.items ≤ (vt_session_of session.now).calls.ports }
-    requires played { ArePlayed session.now k all }
+    requires played { ConsolesArePlayed session.now k all }
     ensures count { IfOk result (λ consoles. length consoles.items ≡ length all.kept.items) }
     ensures before { (entries part : List VtEntry)
         → ArePlayedIn session.now k entries part all

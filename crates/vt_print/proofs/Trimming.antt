@@ -1,6 +1,6 @@
 -- Rows without the blanks at their end.
-use Rattle.std.proofs.Common.{◌≡◌, ◌≢◌, ℕ, ◌+◌, ◌-◌, ◌<◌, ◌≤◌, ◌==◌, List, [], ◌∷◌, ◌++◌, length, take, get_or}
-use Rattle.std.proofs.Common.{ap, sym, refl, ◌∙◌, subst, arith, if◌then◌else◌, eq-eqb, ne_eqb, true, false, Bool}
+use Rattle.std.proofs.Common.{◌≡◌, ◌≢◌, ℕ, ◌+◌, ◌-◌, ◌<◌, ◌≤◌, List, [], ◌∷◌, ◌++◌, length, take, get_or}
+use Rattle.std.proofs.Common.{ap, sym, refl, ◌∙◌, arith, if◌then◌else◌, ne_eqb, Bool}
 use Rattle.std.proofs.lemmas.List.{take_more}
 use Rattle.vt_print.specs.Consoles.{in_front_of, trimmed}
 

@@ -32,7 +32,7 @@ pub(crate) fn put_rows(
 ) -> Result<(), NoMemory>
     ensures { OnOk result (string_bytes text.new ≡ string_bytes text.old ++ row_lines console 0 screen.now.rows) }
 {
-    let _highest = screen.row(0);
+    let _highest = screen.row(0); // known: how many rows it has
     for r in 0..ROWS {
         put_row(alloc, text, console, r, trimmed(screen.row(r)))?;
     }

@@ -78,11 +78,6 @@ console_over entries first text new runs ends i over same left =
 
 -- ---- blocks and calls
 
-pub blocks_first : (names : List (List ℕ)) (consoles : ℕ) (states : List (List ℕ)) (first : List ℕ) (from : List Cursor)
-    (operators : List PlainOperator)
-    → HasBlocks names consoles states first from operators first from operators
-blocks_first names consoles states first from operators = record { text_left = refl; after = refl; each = refl }
-
 after_both : (names : List (List ℕ)) (cursors : List Cursor) (xs ys : List PlainOperator)
     → cursors_after names cursors (xs ++ ys) ≡ cursors_after names (cursors_after names cursors xs) ys
 after_both names cursors [] ys = refl

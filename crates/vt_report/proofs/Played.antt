@@ -6,7 +6,7 @@ use Rattle.session_print.specs.Ends.{PlainEnd}
 use Rattle.session_print.specs.Report.{answer_in, calls_text, calls_from, told_in, told_line}
 use Rattle.vt_consoles.specs.declared.entries.VtEntry.{VtEntry}
 use Rattle.vt_text.specs.Sessions.{PlainVtPhase, PlainVtSession}
-use Rattle.vt_account.specs.Keyed.{IsWhole, consoles_in, keyed, keyed_phases}
+use Rattle.vt_account.specs.Keyed.{HasAllPhases, consoles_in, keyed, keyed_phases}
 use Rattle.vt_report.specs.Report.{behind_callers, report_text}
 
 -- the scripts stay
@@ -20,7 +20,7 @@ same_scripts p ports consoles (keyboard ∷ keyboards) (phase ∷ phases) e =
     (same_scripts p ports (drop (length keyboard.keys) consoles) keyboards phases (omega (arith, e)))
 
 same_calls : (session : PlainVtSession) (entries : List VtEntry) (p : ℕ) (run : PortRun)
-    → IsWhole session
+    → HasAllPhases session
     → calls_text p (keyed session entries) run ≡ calls_text p session.calls run
 same_calls session entries p run whole =
     ap (λ (scripts : List PlainScript).
@@ -28,7 +28,7 @@ same_calls session entries p run whole =
     (same_scripts p session.calls.ports (consoles_in entries) session.phases session.calls.phases whole)
 
 same_callers : (session : PlainVtSession) (entries : List VtEntry) (p : ℕ) (runs : List PortRun)
-    → IsWhole session
+    → HasAllPhases session
     → calls_from p (keyed session entries) runs ≡ calls_from p session.calls runs
 same_callers session entries p [] whole = refl
 same_callers session entries p (run ∷ runs) whole =
@@ -36,7 +36,7 @@ same_callers session entries p (run ∷ runs) whole =
     ∙ ap (λ (l : List ℕ). calls_text p session.calls run ++ l) (same_callers session entries (p + 1) runs whole)
 
 pub same_report : (session : PlainVtSession) (entries : List VtEntry) (runs : List PortRun) (ends : List PlainEnd)
-    → IsWhole session
+    → HasAllPhases session
     → report_text (record session { calls = keyed session entries }) entries runs ends
     ≡ report_text session entries runs ends
 same_report session entries runs ends whole =

@@ -3,7 +3,7 @@
 ghost use Rattle.std.specs.Prelude.{◌≡◌, ◌++◌, ◌<◌, IfOk, OnOk, length, map, replicate, string_bytes, []};
 ghost use Rattle.tty_calls.specs.Sessions.{number_in};
 ghost use Rattle.vt_text.specs.Sessions.{operator_of, operators_of, vt_session_of};
-ghost use Rattle.vt_report.specs.Report.{activation_answer, call_line, is_state, line_of};
+ghost use Rattle.vt_report.specs.Report.{activation_answer, call_line, line_of};
 ghost use Rattle.vt_report.specs.Report.{lines_from, operators_text, state_line};
 ghost use Rattle.vt_report.specs.Printing.{AreStates, block_text, blocks_in, blocks_text, cursor_next, cursor_then};
 ghost use Rattle.vt_report.specs.Printing.{cursors_after, cursors_then, first_cursor, states_after, states_then};

@@ -1,6 +1,6 @@
 //! The report of a session of consoles.
 
-ghost use Rattle.std.specs.Prelude.{◌≡◌, ◌++◌, ◌-◌, IfOk, OnOk, length, map, string_bytes, take};
+ghost use Rattle.std.specs.Prelude.{◌≡◌, ◌++◌, ◌-◌, IfOk, OnOk, map, string_bytes};
 ghost use Rattle.tty_calls.specs.Sessions.{session_of};
 ghost use Rattle.session_print.specs.Ends.{end_of};
 ghost use Rattle.session_print.specs.Report.{calls_from};

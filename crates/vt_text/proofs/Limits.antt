@@ -9,6 +9,7 @@ use Rattle.std.specs.Option.{option_or}
 use Rattle.std.proofs.lemmas.Bool.{and_parts}
 use Rattle.std.proofs.lemmas.List.Sums.{sum_by-cons, sum_by-append}
 use Rattle.std.proofs.lemmas.Slice.Eq.{bytes_eq-Decides}
+use Rattle.tty_base.specs.Sizes.{MOST_KEYS, MOST_OPERATORS, MOST_OPERATOR_CALLS, MOST_STEPS}
 use Rattle.tty_calls.specs.Sessions.{PlainSession}
 use Rattle.text_lines.specs.Lines.{first_is}
 use Rattle.text_lines.specs.Values.{word_at, number_at, is_hex, is_name, bytes_of, choice_of}
@@ -100,10 +101,10 @@ open_count r = one_if (in_phase r.session.stand.place)
 
 record Within (r : PlainVtReading) : Type 0 where
   whole : length (all_phases r.session.draft) ≡ length r.phases + open_count r
-  keys : key_count r.phases + (length r.keys + r.keys_left) ≤ 262144
-  calls : op_call_count r.phases + (calls_of r.operators + r.calls_left) ≤ 65536
-  operators : length r.operators ≤ 16
-  before : operator_count r.phases ≤ 16 * length r.phases
+  keys : key_count r.phases + (length r.keys + r.keys_left) ≤ MOST_KEYS
+  calls : op_call_count r.phases + (calls_of r.operators + r.calls_left) ≤ MOST_STEPS
+  operators : length r.operators ≤ MOST_OPERATORS
+  before : operator_count r.phases ≤ MOST_OPERATORS * length r.phases
 
 -- the callers' session is that of lines from here on, which are so long
 record ReadsOn (r : PlainReading) (n : ℕ) (x : PlainSession) (long : ℕ) : Type 0 where
@@ -470,9 +471,9 @@ module _ (long : ℕ) where
       let one : PlainOperator = record { name = name; calls = [] } in
       let late = last_fits (in_open_phase r) (length arguments == 1) (wrong_unless reason.Word (is_name name))
       (once_fault r.operators name) none in
-      let few : length r.operators < 16 =
-      ltb-true (length r.operators) 16
-      (few_by_once (list_any (is_named name) r.operators) (nat_lt (length r.operators) 16) late) in
+      let few : length r.operators < MOST_OPERATORS =
+      ltb-true (length r.operators) MOST_OPERATORS
+      (few_by_once (list_any (is_named name) r.operators) (nat_lt (length r.operators) MOST_OPERATORS) late) in
       record {
         within = λ h. record {
           whole = h.whole;
@@ -696,9 +697,9 @@ record GoesOn (r : PlainReading) (n room : ℕ) (x : PlainVtSession) : Type 0 wh
 record IsRead (r : PlainReading) (n keys rest : ℕ) (x : PlainVtSession) : Type 0 where
   reads : GoesOn r n (2 * keys + rest) x ⊎ GoesOn first_reading n (rest + 1) x
   whole : length x.calls.phases ≡ length x.phases
-  keys_few : key_count x.phases ≤ 262144
-  calls : op_call_count x.phases ≤ 65536
-  operators : operator_count x.phases ≤ 16 * length x.phases
+  keys_few : key_count x.phases ≤ MOST_KEYS
+  calls : op_call_count x.phases ≤ MOST_OPERATOR_CALLS
+  operators : operator_count x.phases ≤ MOST_OPERATORS * length x.phases
 
 read_at_end : (r : PlainVtReading) (n : ℕ)
     → is_ended r.session.stand.place ≡ true

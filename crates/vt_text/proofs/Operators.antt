@@ -3,6 +3,7 @@ use Rattle.std.proofs.Common.{◌≡◌, ℕ, ◌-◌, ◌<◌, zero, suc, List,
 use Rattle.std.proofs.Common.{sym, ◌∙◌, arith, Bool, true, false, if◌then◌else◌, nat_lt, Some, refl, ◌||◌}
 use Rattle.std.specs.List.{list_any}
 use Rattle.std.proofs.lemmas.List.{length-map}
+use Rattle.tty_base.specs.Sizes.{MOST_OPERATORS}
 use Rattle.session_text.specs.declared.faults.Reason.TheVariants.{Order, Limit}
 use Rattle.vt_text.specs.declared.sessions.OpCall.{OpCall}
 use Rattle.vt_text.specs.declared.sessions.OpScript.{OpScript}
@@ -44,10 +45,11 @@ named_among xs name = list_any-map (is_named name) operator_of xs
 once_if : (xs : List OpScript) (name : List ℕ) (b c : Bool)
     → b ≡ list_any (is_named name) (operators_of xs)
     → b ≡ c
-    → (if c then Some Order else wrong_unless Limit (nat_lt (length (operators_of xs)) 16))
+    → (if c then Some Order else wrong_unless Limit (nat_lt (length (operators_of xs)) MOST_OPERATORS))
     ≡ once_fault (operators_of xs) name
 once_if xs name b c e f =
-    ap (λ (t : Bool). if t then Some Order else wrong_unless Limit (nat_lt (length (operators_of xs)) 16)) (sym f ∙ e)
+    ap (λ (t : Bool). if t then Some Order else wrong_unless Limit (nat_lt (length (operators_of xs)) MOST_OPERATORS))
+    (sym f ∙ e)
 
 pub once_stood : (xs : List OpScript) (name : List ℕ) (b : Bool)
     → b ≡ list_any (is_named name) (operators_of xs)
@@ -58,6 +60,7 @@ once_stood xs name b e f = once_if xs name b true e f
 pub once_room : (xs : List OpScript) (name : List ℕ) (b : Bool)
     → b ≡ list_any (is_named name) (operators_of xs)
     → b ≡ false
-    → wrong_unless Limit (nat_lt (length xs) 16) ≡ once_fault (operators_of xs) name
+    → wrong_unless Limit (nat_lt (length xs) MOST_OPERATORS) ≡ once_fault (operators_of xs) name
 once_room xs name b e f =
-    ap (λ (n : ℕ). wrong_unless Limit (nat_lt n 16)) (sym (length-map xs operator_of)) ∙ once_if xs name b false e f
+    ap (λ (n : ℕ). wrong_unless Limit (nat_lt n MOST_OPERATORS)) (sym (length-map xs operator_of))
+    ∙ once_if xs name b false e f

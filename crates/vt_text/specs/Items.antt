@@ -4,6 +4,7 @@ use Rattle.std.specs.Prelude.{List, [], ◌∷◌, ◌++◌, length, Option, Non
 use Rattle.std.specs.Str.{bytes_eq}
 use Rattle.std.specs.List.{list_any}
 use Rattle.std.specs.Option.{option_or}
+use Rattle.tty_base.specs.Sizes.{MOST_KEYS, MOST_OPERATORS, MOST_STEPS}
 use Rattle.text_lines.specs.Values.{word_at, is_name, is_hex, is_number, number_of, bytes_of}
 use Rattle.session_text.specs.declared.faults.Reason.{Reason}
 use Rattle.session_text.specs.declared.faults.Reason.TheVariants.{Word, Number, Hex, Order, Limit}
@@ -32,8 +33,8 @@ first_vt_reading = record {
   keys = [];
   operators = [];
   phases = [];
-  calls_left = 65536;
-  keys_left = 262144;
+  calls_left = MOST_STEPS;
+  keys_left = MOST_KEYS;
 }
 
 abbrev pub in_open_phase : PlainVtReading → Bool
@@ -64,10 +65,12 @@ keys_fault r arguments =
 abbrev pub is_named : List ℕ → PlainOperator → Bool
 is_named name operator = bytes_eq operator.name name
 
--- an operator may stand once in a phase, and beside 15 others
+-- an operator may stand once in a phase, and beside a limited number of others
 abbrev pub once_fault : List PlainOperator → List ℕ → Option Reason
 once_fault operators name =
-    if list_any (is_named name) operators then Some Order else wrong_unless Limit (nat_lt (length operators) 16)
+    if list_any (is_named name) operators
+    then Some Order
+    else wrong_unless Limit (nat_lt (length operators) MOST_OPERATORS)
 
 abbrev pub operator_fault : PlainVtReading → List (List ℕ) → Option Reason
 operator_fault r arguments =

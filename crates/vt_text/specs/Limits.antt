@@ -1,5 +1,6 @@
 -- What a session of consoles asks at most: the limits that every one keeps that a text spells.
 use Rattle.std.specs.Prelude.{◌≡◌, ◌≤◌, ◌*◌, ℕ, List, length, sum_by}
+use Rattle.tty_base.specs.Sizes.{MOST_KEYS, MOST_OPERATORS, MOST_OPERATOR_CALLS}
 use Rattle.tty_calls.specs.Limits.{IsWithinLimits}
 use Rattle.vt_text.specs.Sessions.{PlainOperator, PlainVtPhase, PlainVtSession}
 
@@ -16,10 +17,10 @@ op_call_count phases = sum_by (λ (phase : PlainVtPhase). calls_of phase.operato
 abbrev pub operator_count : List PlainVtPhase → ℕ
 operator_count phases = sum_by (λ (phase : PlainVtPhase). length phase.operators) phases
 
--- its callers' session keeps its limits, and has as many phases; a phase has at most 16 operators
+-- its callers' session keeps its limits, and has as many phases; a phase has a limited number of operators
 pub record IsVtWithin (session : PlainVtSession) : Type 0 where
   pub calls : IsWithinLimits session.calls
   pub whole : length session.calls.phases ≡ length session.phases
-  pub few_keys : key_count session.phases ≤ 262144
-  pub few_calls : op_call_count session.phases ≤ 65536
-  pub few_operators : operator_count session.phases ≤ 16 * length session.phases
+  pub few_keys : key_count session.phases ≤ MOST_KEYS
+  pub few_calls : op_call_count session.phases ≤ MOST_OPERATOR_CALLS
+  pub few_operators : operator_count session.phases ≤ MOST_OPERATORS * length session.phases

@@ -8,9 +8,7 @@ ghost use Rattle.vt_text.specs.Items.{byte_fault, is_named, once_fault, wrong_un
 use crate::sessions::OpScript;
 use session_text::Reason;
 use text_lines::{FirstTwo, read_number};
-
-/// So many operators a phase has at most.
-const OPERATORS: usize = 16;
+use tty_base::sizes::MOST_OPERATORS;
 
 /// Whose block is open.
 #[derive(Clone, Copy, PartialEq, Eq)]
@@ -56,7 +54,7 @@ pub(crate) fn once_fault(operators: &[OpScript], name: &[u8]) -> Option<Reason>
     if has_name(operators, name) {
         return Some(Reason::Order);
     }
-    wrong_unless(Reason::Limit, operators.len() < OPERATORS)
+    wrong_unless(Reason::Limit, operators.len() < MOST_OPERATORS)
 }
 
 fn has_name(operators: &[OpScript], name: &[u8]) -> bool

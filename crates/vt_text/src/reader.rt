@@ -1,11 +1,11 @@
 //! Reads a text line by line.
 
-ghost use Rattle.std.specs.Prelude.{◌≡◌, None, Some, IfOk, OnOk};
+ghost use Rattle.std.specs.Prelude.{◌≡◌, None, Some, OnOk};
 ghost use Rattle.text_lines.specs.Lines.{words_of};
 ghost use Rattle.text_lines.specs.Values.{word_at, number_at};
-ghost use Rattle.session_text.specs.Reading.{Gives};
+ghost use Rattle.session_text.specs.Reading.{GivesRead};
 ghost use Rattle.vt_text.specs.Sessions.{vt_session_of};
-ghost use Rattle.vt_text.specs.Items.{IsByteAlone, first_vt_reading, in_open_phase};
+ghost use Rattle.vt_text.specs.Items.{IsByteAlone, first_vt_reading};
 ghost use Rattle.vt_text.specs.Items.{keys_fault, operator_fault, activate_fault, state_fault};
 ghost use Rattle.vt_text.specs.Items.{with_keys, with_operator, with_call, with_phase_closed};
 ghost use Rattle.vt_text.specs.Reading.{after_border, after_call, after_header, after_item, after_line};
@@ -20,13 +20,9 @@ use session_text::{BadLine, Reader, Reason, TextFault};
 use std::alloc::Global;
 use std::mem;
 use text_lines::{FirstTwo, bytes_in, is_comment, is_hex, is_name, split_line, split_word};
+use tty_base::sizes::{MOST_KEYS, MOST_STEPS};
 use tty_base::{Buffer, Bytes, NoMemory};
 use tty_modes::is_same;
-
-/// So many calls, of callers and operators together, and so many keys a text has at most.
-const CALLS: u64 = 65_536;
-
-const KEYS: u64 = 262_144;
 
 /// What was read of a text.
 #[derive(Drop)]
@@ -59,14 +55,14 @@ impl VtReader {
             keys: Bytes::new(alloc),
             operators: Vec::new(alloc),
             phases: Buffer::new(alloc),
-            calls_left: CALLS,
-            keys_left: KEYS,
+            calls_left: MOST_STEPS as u64,
+            keys_left: MOST_KEYS as u64,
         }
     }
 
     /// Reads the line with this number.
     fn read_line(&mut self, alloc: Global, number: u32, line: &[u8]) -> Result<(), TextFault>
-        ensures { Gives (λ _. vt_reading_of self.new) result
+        ensures { GivesRead (λ _. vt_reading_of self.new) result
             (after_line (vt_reading_of self.old) number (words_of line.now)) }
     {
         match split_word(line) {
@@ -87,7 +83,7 @@ impl VtReader {
         word: &[u8],
         arguments: &FirstTwo,
     ) -> Result<(), TextFault>
-        ensures { Gives (λ _. vt_reading_of self.new) result
+        ensures { GivesRead (λ _. vt_reading_of self.new) result
             (after_item (vt_reading_of self.old) number word.now arguments.now) }
     {
         if self.session.is_at_start() {
@@ -107,7 +103,7 @@ impl VtReader {
         word: &[u8],
         arguments: &FirstTwo,
     ) -> Result<(), TextFault>
-        ensures { Gives (λ _. vt_reading_of self.new) result (after_header number word.now arguments.now) }
+        ensures { GivesRead (λ _. vt_reading_of self.new) result (after_header number word.now arguments.now) }
     {
         if !is_header(word, arguments) {
             return Err(bad(number, Reason::Header));
@@ -124,7 +120,7 @@ impl VtReader {
         word: &[u8],
         arguments: &FirstTwo,
     ) -> Result<(), TextFault>
-        ensures { Gives (λ _. vt_reading_of self.new) result
+        ensures { GivesRead (λ _. vt_reading_of self.new) result
             (after_verb (vt_reading_of self.old) number word.now arguments.now (Some verb)) }
     {
         match verb {
@@ -154,7 +150,7 @@ impl VtReader {
         word: &[u8],
         arguments: &FirstTwo,
     ) -> Result<(), TextFault>
-        ensures { Gives (λ _. vt_reading_of self.new) result
+        ensures { GivesRead (λ _. vt_reading_of self.new) result
             (after_session_item (vt_reading_of self.old) number word.now arguments.now) }
     {
         self.session.read_item(alloc, number, word, arguments)
@@ -168,7 +164,7 @@ impl VtReader {
         word: &[u8],
         arguments: &FirstTwo,
     ) -> Result<(), TextFault>
-        ensures { Gives (λ _. vt_reading_of self.new) result
+        ensures { GivesRead (λ _. vt_reading_of self.new) result
             (after_border (vt_reading_of self.old) number word.now arguments.now) }
     {
         let is_open = self.session.is_in_phase();
@@ -200,7 +196,7 @@ impl VtReader {
         word: &[u8],
         arguments: &FirstTwo,
     ) -> Result<(), TextFault>
-        ensures { Gives (λ _. vt_reading_of self.new) result
+        ensures { GivesRead (λ _. vt_reading_of self.new) result
             (after_call (vt_reading_of self.old) number word.now arguments.now) }
     {
         if !matches!(self.block, Block::Caller) {
@@ -220,7 +216,7 @@ impl VtReader {
         number: u32,
         arguments: &FirstTwo,
     ) -> Result<(), TextFault>
-        ensures { Gives (λ _. vt_reading_of self.new) result
+        ensures { GivesRead (λ _. vt_reading_of self.new) result
             (unless number (keys_fault (vt_reading_of self.old) arguments.now)
             (with_keys (vt_reading_of self.old) (word_at arguments.now 0))) }
     {
@@ -269,7 +265,7 @@ impl VtReader {
         number: u32,
         arguments: &FirstTwo,
     ) -> Result<(), TextFault>
-        ensures { Gives (λ _. vt_reading_of self.new) result
+        ensures { GivesRead (λ _. vt_reading_of self.new) result
             (unless number (operator_fault (vt_reading_of self.old) arguments.now)
             (with_operator (vt_reading_of self.old) (word_at arguments.now 0))) }
     {
@@ -303,7 +299,7 @@ impl VtReader {
     }
 
     fn read_activate(&mut self, number: u32, arguments: &FirstTwo) -> Result<(), TextFault>
-        ensures { Gives (λ _. vt_reading_of self.new) result
+        ensures { GivesRead (λ _. vt_reading_of self.new) result
             (unless number (activate_fault (vt_reading_of self.old) arguments.now)
             (with_call (vt_reading_of self.old) (OpCall.Activate (number_at arguments.now 0)))) }
     {
@@ -332,7 +328,7 @@ impl VtReader {
     }
 
     fn read_state(&mut self, number: u32, arguments: &FirstTwo) -> Result<(), TextFault>
-        ensures { Gives (λ _. vt_reading_of self.new) result
+        ensures { GivesRead (λ _. vt_reading_of self.new) result
             (unless number (state_fault (vt_reading_of self.old) arguments.now)
             (with_call (vt_reading_of self.old) OpCall.State)) }
     {
@@ -365,7 +361,7 @@ impl VtReader {
 
     /// The session of consoles, where the text ends before the line with this number.
     fn finish(self, number: u32) -> Result<VtSession, TextFault>
-        ensures { Gives vt_session_of result (vt_at_end (vt_reading_of self) number) }
+        ensures { GivesRead vt_session_of result (vt_at_end (vt_reading_of self) number) }
     {
         let VtReader {
             session,
@@ -401,7 +397,7 @@ fn console_in(arguments: &FirstTwo) -> u8
 /// The session of consoles that a text spells. `Bad` comes exactly where it spells none, and names its first wrong
 /// line, counted from 1 and as far as 32 bits count, and why that line is wrong.
 pub fn parse_vt(alloc: Global, text: &[u8]) -> Result<VtSession, TextFault>
-    ensures { Gives vt_session_of result (vt_in text.now) }
+    ensures { GivesRead vt_session_of result (vt_in text.now) }
 {
     let mut reader = VtReader::new(alloc);
     let mut rest = text;

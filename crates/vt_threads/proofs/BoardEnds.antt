@@ -1,5 +1,5 @@
 -- What the seats of a board played, from what came of their threads.
-use Rattle.std.proofs.Common.{◌≡◌, ℕ, List, [], ◌++◌, length, map, refl, sym, ap, ◌∙◌, append-nil}
+use Rattle.std.proofs.Common.{◌≡◌, ℕ, List, [], ◌++◌, map, refl, sym, ap, ◌∙◌, append-nil}
 use Rattle.std.specs.Prelude.{flat_map}
 use Rattle.port_cell.specs.declared.kept.Stamped.{Stamped}
 use Rattle.port_cell.specs.Entries.{entries_by}
@@ -10,8 +10,8 @@ use Rattle.vt_consoles.specs.Histories.{history_of, stamped}
 use Rattle.vt_consoles.specs.Seats.{BoardSeat}
 use Rattle.vt_consoles.specs.Shared.{opening_board}
 use Rattle.vt_text.specs.Sessions.{PlainVtPhase}
-use Rattle.vt_account.specs.Account.{accepted, calls_at}
-use Rattle.vt_threads.specs.Operating.{AnswersCalls, MakesAll, calls_of_seat}
+use Rattle.vt_account.specs.Account.{granted, calls_at}
+use Rattle.vt_keyboard.specs.Operating.{AnswersCalls, MakesAll, calls_of_seat}
 use Rattle.vt_threads.specs.Closing.{MadeSince, OperatorPlayed}
 
 -- what a seat had made when the board was shared
@@ -43,7 +43,7 @@ operator_played b names phase n old new was is seen h = record {
   events = h.events;
   made = made_since (history_of (opening_board b)) n h.events old new was is seen h.makes;
   answers =
-      h.answers ∙ ap (λ (k : ℕ). flat_map (accepted (opening_board b).consoles) (calls_at names k phase)) (sym is);
+      h.answers ∙ ap (λ (k : ℕ). flat_map (granted (opening_board b).consoles) (calls_at names k phase)) (sym is);
   no_keys = h.no_keys;
 }
 

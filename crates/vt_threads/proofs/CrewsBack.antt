@@ -1,5 +1,5 @@
 -- What the keyboard's thread and a console's own threads bring back is what a crew does.
-use Rattle.std.proofs.Common.{◌≡◌, ℕ, List, refl, sym, subst}
+use Rattle.std.proofs.Common.{◌≡◌, ℕ, List, subst}
 use Rattle.tty_base.specs.declared.characters.Flagged.{Flagged}
 use Rattle.word_ring.specs.Ends.{PutterState}
 use Rattle.uart_line.specs.LineState.{LineState}
@@ -14,8 +14,8 @@ use Rattle.many_threads.specs.Comings.{ClockComes, FlusherComes, LineComes}
 use Rattle.many_threads.specs.Callers.{CallersCome, plain_cast}
 use Rattle.many_threads.specs.Crew.{CrewComes, crew_in}
 use Rattle.vt_account.specs.Keyed.{key_line}
-use Rattle.vt_threads.specs.declared.console_ends.KeySeats.{KeySeats}
-use Rattle.vt_threads.specs.Consoles.{ConsoleComes}
+use Rattle.vt_keyboard.specs.declared.console_ends.KeySeats.{KeySeats}
+use Rattle.vt_keyboard.specs.Consoles.{ConsoleComes}
 use Rattle.vt_threads.specs.Halves.{crew_back, with_steps}
 
 pub crew_comes : (p : SharedPort) (dealt : Seats) (work : PhaseWork) (keys : List ℕ) (s t : KeySeats) (l m : LineState)

@@ -1,6 +1,6 @@
 -- Consoles from one phase to the next, also those whose journals are full.
 use Rattle.std.proofs.Common.{◌≡◌, ℕ, ◌+◌, ◌<◌, ◌≤◌, List, [], ◌++◌, Some, length}
-use Rattle.std.proofs.Common.{take, refl, sym, subst, ap, ◌∙◌, append-nil}
+use Rattle.std.proofs.Common.{take, sym, subst, ap, ◌∙◌, append-nil}
 use Rattle.std.specs.Prelude.{slice_get}
 use Rattle.tty_base.specs.declared.lines.LineStep.{LineStep}
 use Rattle.tty_base.specs.declared.characters.Flagged.{Flagged}
@@ -9,16 +9,16 @@ use Rattle.uart_line.specs.LineState.{LineState}
 use Rattle.uart_line.specs.Received.{closed_script}
 use Rattle.tty_calls.specs.Limits.{character_count}
 use Rattle.tty_calls.specs.Sessions.{line_on}
-use Rattle.journal_check.specs.Legal.{phase_at, script_of_first}
-use Rattle.journal_check.specs.Short.{after_phases}
-use Rattle.journal_check.proofs.ReceiptLemmas.{first_more}
+use Rattle.legal_runs.specs.Legal.{phase_at, script_of_first}
+use Rattle.legal_runs.specs.Short.{after_phases}
+use Rattle.legal_runs.proofs.LineLemmas.{first_more}
 use Rattle.port_core.specs.Ports.{PortValue}
-use Rattle.one_thread.specs.Roles.{Scene, AreFirstSteps}
-use Rattle.one_thread.specs.Lines.{HasPut}
-use Rattle.one_thread.specs.Phases.{HasFewTicks, IsFullRun, IsPortOf}
-use Rattle.one_thread.specs.declared.phases.Station.{Station}
-use Rattle.one_thread.proofs.ReceivedLemmas.{script_whole}
-use Rattle.many_threads.specs.InPlay.{IsBeforePhase, StandsBefore}
+use Rattle.play_base.specs.Roles.{Scene, AreFirstSteps}
+use Rattle.play_base.specs.Putting.{HasPut}
+use Rattle.play_base.specs.Phases.{HasFewTicks, IsFullRun, IsPortOf}
+use Rattle.play_base.specs.declared.stations.Station.{Station}
+use Rattle.play_base.proofs.ReceivedLemmas.{script_whole}
+use Rattle.many_threads.specs.InPlay.{IsBeforePhase}
 use Rattle.many_threads.specs.PhaseEnds.{PhaseComes}
 use Rattle.many_threads.specs.declared.shared_phase.PhaseEnd.{PhaseEnd}
 use Rattle.many_threads.specs.declared.shared_phase.PhaseEnd.TheVariants.{Over, Full}
@@ -26,9 +26,9 @@ use Rattle.many_threads.proofs.LineAccount.{has_put_runs}
 use Rattle.vt_consoles.specs.declared.entries.VtEntry.{VtEntry}
 use Rattle.vt_text.specs.Sessions.{PlainVtPhase, PlainVtSession}
 use Rattle.vt_account.specs.Keyed.{IsWithinKeys, all_keys, consoles_in, key_line, keyed, keys_to}
-use Rattle.vt_threads.specs.Keying.{DoesSteps}
+use Rattle.vt_keyboard.specs.Keying.{DoesSteps}
 use Rattle.vt_threads.specs.Between.{ConsoleStands, IsFullBefore}
-use Rattle.vt_threads.proofs.LineEnd.{runs_of}
+use Rattle.vt_keyboard.proofs.LineEnd.{runs_of}
 use Rattle.vt_threads.proofs.KeyedPhases.{keyed_line}
 use Rattle.vt_threads.proofs.KeyedPlay.{keyed_next}
 use Rattle.vt_threads.proofs.SameCallers.{keyed_differs, same_length}

@@ -1,14 +1,13 @@
 -- What comes of a console's phase, from what its threads brought back.
-use Rattle.std.proofs.Common.{◌≡◌, ℕ, ◌+◌, List, refl, sym, subst, ap, ◌∙◌, length}
+use Rattle.std.proofs.Common.{◌≡◌, ℕ, sym, subst, length}
 use Rattle.tty_base.specs.declared.characters.Flagged.{Flagged}
 use Rattle.word_ring.specs.Ends.{PutterState}
 use Rattle.uart_line.specs.LineState.{LineState}
 use Rattle.port_core.specs.Ports.{PortValue}
-use Rattle.tty_terminal.specs.Steps.{may_end}
-use Rattle.one_thread.specs.Roles.{Scene}
-use Rattle.one_thread.specs.LineInside.{KnowsTaken}
-use Rattle.one_thread.specs.declared.phases.Station.{Station}
-use Rattle.one_thread.proofs.LineSteps.{knows_met}
+use Rattle.play_base.specs.Roles.{Scene}
+use Rattle.play_base.specs.Putting.{KnowsTaken}
+use Rattle.play_base.specs.declared.stations.Station.{Station}
+use Rattle.play_base.proofs.Meetings.{knows_met}
 use Rattle.tty_port.specs.Calls.{PortSeat}
 use Rattle.tty_port.specs.declared.shared.SharedPort.{SharedPort}
 use Rattle.many_threads.specs.declared.crew.Crew.{Crew}
@@ -21,13 +20,13 @@ use Rattle.many_threads.specs.declared.shared_phase.PhaseWork.{PhaseWork}
 use Rattle.many_threads.specs.Crew.{CanRun, CrewComes, crew_in, seats_of}
 use Rattle.many_threads.specs.Seats.{AreDealt}
 use Rattle.many_threads.specs.PhaseStarts.{CanPlayPhase, StopsPhase}
-use Rattle.many_threads.specs.PhaseEnds.{AreTaken, EndsOrStops, IsClosed, IsShared}
-use Rattle.many_threads.specs.PhaseEnds.{PhaseComes, PlaysThreads, ThreadsCome, ThreadsLeave}
+use Rattle.many_threads.specs.PhaseEnds.{AreTaken, IsClosed}
+use Rattle.many_threads.specs.PhaseEnds.{PlaysThreads, ThreadsCome, ThreadsLeave}
 use Rattle.many_threads.proofs.Gathering.{threads_come}
 use Rattle.many_threads.proofs.PhaseAccount.{dealt_to, threads_leave}
-use Rattle.many_threads.proofs.PhaseEnds.{leaves_from, phase_comes}
+use Rattle.many_threads.proofs.PhaseEnds.{leaves_from}
 use Rattle.many_threads.proofs.PhaseStart.{can_play_met, can_run}
-use Rattle.vt_threads.specs.Halves.{CanFinish, IsShut, ThreadsOver}
+use Rattle.vt_threads.specs.Halves.{ThreadsOver}
 
 module _ (s : Scene) (old : Station) (work : PhaseWork) (p : SharedPort) (dealt : Seats) (line : LineState)
     (putter : PutterState Flagged) (session : PortSeat) (back : CrewBack)
@@ -84,9 +83,3 @@ other_steps s k old left now Full port putter line h =
     subst (λ (v : PortValue). StopsPhase s k old.port v now.putter old.line now.line) (sym port)
     (subst (λ (q : PutterState Flagged). StopsPhase s k old.port left.port q old.line now.line) (sym putter)
     (subst (λ (l : LineState). StopsPhase s k old.port left.port left.putter old.line l) (sym line) h))
-
-pub can_finish : (s : Scene) (k : ℕ) (old left : Station) (end : PhaseEnd)
-    → ThreadsLeave s k old left end
-    → CanFinish left end
-can_finish s k old left (Over next) h = (h.may, h.has_put.ring)
-can_finish s k old left Full h = tt

@@ -1,22 +1,17 @@
 -- Room on a line for the keys of a phase, wherever they go.
-use Rattle.std.proofs.Common.{◌≡◌, ℕ, ◌+◌, ◌<◌, ◌≤◌, ◌==◌, Bool, true, List, [], ◌∷◌, ◌++◌, Some}
+use Rattle.std.proofs.Common.{◌≡◌, ℕ, ◌+◌, ◌<◌, ◌≤◌, Bool, List, [], ◌∷◌, ◌++◌, Some}
 use Rattle.std.proofs.Common.{eq-eqb, if◌then◌else◌, length, take, refl, sym, subst, ap, ◌∙◌, arith}
 use Rattle.std.specs.Prelude.{slice_get}
 use Rattle.tty_base.specs.Lines.{arrival, arrival_count}
 use Rattle.tty_base.specs.declared.lines.LineStep.TheVariants.{Trigger}
-use Rattle.tty_base.specs.declared.lines.LineStep.{LineStep}
-use Rattle.tty_base.specs.declared.characters.Flagged.{Flagged}
-use Rattle.word_ring.specs.Ends.{PutterState}
 use Rattle.uart_line.specs.GoodSteps.{good_steps}
-use Rattle.uart_line.specs.LineState.{LineState}
 use Rattle.tty_calls.specs.Limits.{character_count}
-use Rattle.tty_calls.specs.Sessions.{PlainSession, line_on}
-use Rattle.journal_check.specs.Legal.{phase_at, script_of_first}
-use Rattle.port_core.specs.Ports.{PortValue}
-use Rattle.one_thread.specs.Roles.{Scene}
-use Rattle.one_thread.specs.Lines.{HasPut}
-use Rattle.one_thread.specs.declared.phases.Station.{Station}
-use Rattle.one_thread.proofs.ReceivedLemmas.{arrivals_fit}
+use Rattle.tty_calls.specs.Sessions.{line_on}
+use Rattle.legal_runs.specs.Legal.{phase_at, script_of_first}
+use Rattle.play_base.specs.Roles.{Scene}
+use Rattle.play_base.specs.Putting.{HasPut}
+use Rattle.play_base.specs.declared.stations.Station.{Station}
+use Rattle.play_base.proofs.ReceivedLemmas.{arrivals_fit}
 use Rattle.many_threads.specs.declared.shared_phase.PhaseEnd.{PhaseEnd}
 use Rattle.many_threads.specs.declared.shared_phase.PhaseEnd.TheVariants.{Over, Full}
 use Rattle.vt_consoles.specs.declared.entries.VtEntry.{VtEntry}
@@ -24,7 +19,7 @@ use Rattle.vt_consoles.specs.declared.entries.VtEvent.TheVariants.{Key}
 use Rattle.vt_text.specs.Sessions.{PlainVtPhase, PlainVtSession}
 use Rattle.vt_account.specs.Keyed.{IsWithinKeys, all_keys, consoles_in, key_line, keyed, keys_to}
 use Rattle.vt_account.proofs.Received.{good_arrive}
-use Rattle.vt_threads.specs.Keying.{CanBegin}
+use Rattle.vt_keyboard.specs.Keying.{CanBegin}
 use Rattle.vt_threads.specs.Between.{ConsoleStands, StandsKeyed}
 use Rattle.vt_threads.proofs.KeyedPhases.{keyed_line}
 use Rattle.vt_threads.proofs.KeyedPlay.{can_begin, rests_between}

@@ -8,7 +8,8 @@ use Rattle.std.proofs.lemmas.List.FromFn.{get_or-map-range_with_len}
 use Rattle.tty_calls.specs.Sessions.{PlainPhase, line_on}
 use Rattle.vt_consoles.specs.declared.entries.VtEntry.{VtEntry}
 use Rattle.vt_text.specs.Sessions.{PlainVtPhase, PlainVtSession}
-use Rattle.vt_account.specs.Keyed.{console_in, consoles_in, keys_to, all_keys, key_line, keyed_phases, keyed, IsWhole}
+use Rattle.vt_account.specs.Keyed.{console_in, consoles_in, keys_to, all_keys, key_line, keyed_phases, keyed}
+use Rattle.vt_account.specs.Keyed.{HasAllPhases}
 
 -- further consoles change nothing
 keys_enough : (p : ℕ) (keys went more : List ℕ)
@@ -52,7 +53,7 @@ consoles_both xs ys = flat_map-append (λ (e : VtEntry). console_in e.event) xs 
 
 pub keyed_line : (session : PlainVtSession) (p k : ℕ) (phase : PlainVtPhase) (entries part more : List VtEntry)
     (went : List ℕ) (d : PlainPhase)
-    → IsWhole session
+    → HasAllPhases session
     → p < session.calls.ports
     → slice_get session.phases k ≡ Some phase
     → consoles_in part ≡ went

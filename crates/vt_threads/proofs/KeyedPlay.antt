@@ -1,9 +1,9 @@
 -- A phase of a console as one of the session that it plays once the keys have come.
-use Rattle.std.proofs.Common.{◌≡◌, ℕ, ◌+◌, ◌<◌, ◌≤◌, List, [], ◌∷◌, ◌++◌, IsTrue, Option, Some, Bool, false, length}
-use Rattle.std.proofs.Common.{map, replicate, reverse, take, refl, sym, subst, ap, ◌∙◌, arith, append_assoc, append-nil}
+use Rattle.std.proofs.Common.{◌≡◌, ℕ, ◌+◌, ◌<◌, ◌≤◌, List, [], ◌∷◌, ◌++◌, IsTrue, Some, length}
+use Rattle.std.proofs.Common.{map, replicate, reverse, take, refl, sym, subst, ap, ◌∙◌, append_assoc, append-nil}
 use Rattle.std.specs.Prelude.{All, None, slice_get, sum}
 use Rattle.std.proofs.lemmas.List.Elements.{All-nil, All-cons}
-use Rattle.std.proofs.lemmas.List.{length-map, reverse-append}
+use Rattle.std.proofs.lemmas.List.{reverse-append}
 use Rattle.tty_base.specs.Lines.{is_step}
 use Rattle.tty_base.specs.declared.lines.LineStep.{LineStep}
 use Rattle.tty_base.specs.declared.lines.LineStep.TheVariants.{Idle, Unmask}
@@ -13,18 +13,17 @@ use Rattle.uart_line.specs.LineState.{LineState}
 use Rattle.uart_line.specs.GoodSteps.{good_steps}
 use Rattle.uart_line.specs.Received.{closed_script, is_cut, is_masked, script, waiting_list, window}
 use Rattle.uart_line.proofs.Steps.{waiting_list-closed_script}
-use Rattle.tty_calls.specs.Limits.{IsWithinLimits, character_count}
-use Rattle.tty_calls.specs.Sessions.{PlainPhase, PlainScript, PlainSession, counts_on, line_on, ticks_on}
-use Rattle.tty_calls.specs.declared.sessions.Script.{Script}
-use Rattle.journal_check.specs.Legal.{phase_at, script_of_first}
+use Rattle.tty_calls.specs.Limits.{character_count}
+use Rattle.tty_calls.specs.Sessions.{PlainSession, counts_on, line_on, ticks_on}
+use Rattle.legal_runs.specs.Legal.{phase_at, script_of_first}
 use Rattle.port_core.specs.Ports.{PortValue}
-use Rattle.one_thread.specs.Roles.{Scene, AreFirstSteps, AreRolesOf, role_in}
-use Rattle.one_thread.specs.Lines.{HasPut}
-use Rattle.one_thread.specs.declared.roles.Role.{Role}
-use Rattle.one_thread.specs.declared.phases.Station.{Station}
+use Rattle.play_base.specs.Roles.{Scene, AreFirstSteps, AreRolesOf, role_in}
+use Rattle.play_base.specs.Putting.{HasPut}
+use Rattle.play_base.specs.declared.roles.Role.{Role}
+use Rattle.play_base.specs.declared.stations.Station.{Station}
 use Rattle.many_threads.specs.Cast.{seated}
 use Rattle.many_threads.specs.Callers.{plain_cast}
-use Rattle.many_threads.specs.InPlay.{IsBeforePhase, StandsBefore}
+use Rattle.many_threads.specs.InPlay.{IsBeforePhase, WerePlayedBefore}
 use Rattle.many_threads.specs.PhaseStarts.{CanPlayPhase, IsCast}
 use Rattle.many_threads.specs.PhaseEnds.{PhaseComes}
 use Rattle.many_threads.specs.declared.shared_phase.PhaseWork.{PhaseWork}
@@ -35,8 +34,8 @@ use Rattle.vt_consoles.specs.declared.entries.VtEntry.{VtEntry}
 use Rattle.vt_text.specs.Sessions.{PlainVtPhase, PlainVtSession}
 use Rattle.vt_account.specs.Keyed.{IsWithinKeys, all_keys, consoles_in, key_line, keyed, keys_to}
 use Rattle.vt_account.proofs.Limits.{few_characters, keyed_within}
-use Rattle.vt_threads.specs.Keying.{CanBegin}
-use Rattle.vt_threads.specs.Halves.{IsAtRest, with_steps}
+use Rattle.vt_keyboard.specs.Keying.{CanBegin}
+use Rattle.vt_threads.specs.Halves.{IsDrained, with_steps}
 use Rattle.vt_threads.proofs.KeyedPhases.{keyed_line}
 use Rattle.vt_threads.proofs.SameCallers.{keyed_differs, same_counts, same_first_steps}
 use Rattle.vt_threads.proofs.SameCallers.{same_roles, same_ticks, same_length}
@@ -93,7 +92,7 @@ pub keyed_next : (session : PlainVtSession) (p k : ℕ) (entries : List VtEntry)
     → IsBeforePhase (record { port = p; session = keyed session entries }) k station run
     → PhaseComes (record { port = p; session = keyed session entries }) k station new end
     → AreFirstSteps (record { port = p; session = session.calls }) (k + 1) left.steps.items
-    → StandsBefore (record { port = p; session = keyed session entries }) (k + 1) left end
+    → WerePlayedBefore (record { port = p; session = keyed session entries }) (k + 1) left end
 keyed_next session p k entries station new left run end within below port putter line before comes steps =
     let differ = keyed_differs session entries within.whole in
     stands_next (record { port = p; session = keyed session entries }) k station new left run end port putter line
@@ -109,7 +108,7 @@ few_come session entries p within =
 
 -- ---- the line at the beginning of a phase
 
-rests_closed : (before steps : List LineStep) → IsAtRest (before ++ closed_script steps)
+rests_closed : (before steps : List LineStep) → IsDrained (before ++ closed_script steps)
 unfolding is_masked
 rests_closed before steps = record {
   unmasked = ap is_masked (ap reverse (sym (append_assoc before steps (Unmask ∷ Idle 4 ∷ [])))
@@ -118,23 +117,23 @@ rests_closed before steps = record {
 }
 
 rests_more : (before : List LineStep) (lines : List (List LineStep))
-    → IsAtRest before
-    → IsAtRest (before ++ script lines)
+    → IsDrained before
+    → IsDrained (before ++ script lines)
 unfolding script
-rests_more before [] h = subst IsAtRest (sym (append-nil before)) h
-rests_more before (steps ∷ lines) h = subst IsAtRest (append_assoc before (closed_script steps) (script lines))
+rests_more before [] h = subst IsDrained (sym (append-nil before)) h
+rests_more before (steps ∷ lines) h = subst IsDrained (append_assoc before (closed_script steps) (script lines))
     (rests_more (before ++ closed_script steps) lines (rests_closed before steps))
 
-rests_none : IsAtRest []
+rests_none : IsDrained []
 unfolding is_cut is_masked waiting_list window
 rests_none = record { unmasked = refl; none_waits = refl }
 
-pub rests_between : (p : ℕ) (x : PlainSession) (k : ℕ) → IsAtRest (script_of_first p x k)
+pub rests_between : (p : ℕ) (x : PlainSession) (k : ℕ) → IsDrained (script_of_first p x k)
 rests_between p x k = rests_more [] (map (line_on p) (take k x.phases)) rests_none
 
 -- a line that has done the phases before one can begin its keys
 pub can_begin : (v : PortValue) (putter : PutterState Flagged) (line : LineState) (steps : List LineStep)
-    → IsAtRest steps
+    → IsDrained steps
     → HasPut v putter line steps
     → line.report.arrived ≤ line.most
     → CanBegin line putter

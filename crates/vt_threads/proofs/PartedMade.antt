@@ -2,17 +2,18 @@
 use Rattle.std.proofs.Common.{◌≡◌, ℕ, ◌≤◌, [], ◌++◌, Option, None, Some, Result, Ok, Err}
 use Rattle.std.proofs.Common.{Vec, Global, map, replicate, sym, subst, ap, ◌∙◌, arith}
 use Rattle.std.specs.Prelude.{IfOk}
+use Rattle.tty_base.specs.Sizes.{MOST_CALLER_SEATS}
 use Rattle.tty_base.specs.declared.characters.Flagged.{Flagged}
 use Rattle.word_ring.specs.Ends.{PutterState}
 use Rattle.uart_line.specs.LineState.{LineState}
 use Rattle.tty_calls.specs.declared.sessions.Session.{Session}
 use Rattle.tty_calls.specs.Sessions.{session_of, ticks_on}
-use Rattle.journal_check.specs.Legal.{phase_at}
-use Rattle.one_thread.specs.Roles.{Scene, AreRolesOf, role_in, scene_of}
-use Rattle.one_thread.specs.Casting.{scripts_at}
-use Rattle.one_thread.specs.declared.roles.Role.{Role}
-use Rattle.one_thread.specs.declared.phases.Station.{Station}
-use Rattle.one_thread.proofs.RoleLemmas.{few_scripts, sum_counts}
+use Rattle.legal_runs.specs.Legal.{phase_at}
+use Rattle.play_base.specs.Roles.{Scene, AreRolesOf, role_in, scene_of}
+use Rattle.play_base.specs.Casting.{scripts_at}
+use Rattle.play_base.specs.declared.roles.Role.{Role}
+use Rattle.play_base.specs.declared.stations.Station.{Station}
+use Rattle.play_base.proofs.RoleLemmas.{few_scripts, sum_counts}
 use Rattle.tty_port.specs.Calls.{PortSeat}
 use Rattle.tty_port.specs.declared.shared.SharedPort.{SharedPort}
 use Rattle.many_threads.specs.declared.caller_threads.CallersBack.{CallersBack}
@@ -29,7 +30,7 @@ use Rattle.vt_account.specs.Keyed.{IsWithinKeys, keyed}
 use Rattle.vt_threads.specs.Halves.{IsShut, ThreadsOver, crew_back}
 use Rattle.vt_threads.specs.Parting.{IsDealtOut, IsParted, IsPartedFull, IsPartedShared}
 use Rattle.vt_threads.specs.Parting.{IsPutTogether, IsSomeConsoleBefore, PartedAs}
-use Rattle.vt_threads.specs.declared.console_ends.KeySeats.{KeySeats}
+use Rattle.vt_keyboard.specs.declared.console_ends.KeySeats.{KeySeats}
 use Rattle.vt_threads.specs.declared.console_phase.Shut.{Shut}
 use Rattle.vt_threads.specs.declared.consoles.Console.{Console}
 use Rattle.vt_threads.specs.declared.parting.Casting.{Casting}
@@ -85,12 +86,12 @@ pub few_callers_in : (session : VtSession) (p k : ℕ) (c d : Console)
     → IsWithinKeys (vt_session_of session)
     → IsSomeConsoleBefore (vt_session_of session) p k c
     → d ≡ c
-    → d.callers ≤ 4092
+    → d.callers ≤ MOST_CALLER_SEATS
 few_callers_in session p k c d within before same =
     let few = few_scripts p (session_of session.calls) within.calls in
     let count = sum_counts p (session_of session.calls) in
     let callers = before.1.callers in
-    subst (λ (x : Console). x.callers ≤ 4092) (sym same) (omega (arith, few, count, callers))
+    subst (λ (x : Console). x.callers ≤ MOST_CALLER_SEATS) (sym same) (omega (arith, few, count, callers))
 
 pub ring_before : (session : VtSession) (p k : ℕ) (c d : Console)
     → IsSomeConsoleBefore (vt_session_of session) p k c

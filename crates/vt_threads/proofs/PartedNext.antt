@@ -1,25 +1,22 @@
 -- A console from one phase to the next, by its parts.
-use Rattle.std.proofs.Common.{◌≡◌, ℕ, ◌+◌, ◌<◌, ◌≤◌, List, [], ◌++◌, Option, None, Some, Result, Ok}
-use Rattle.std.proofs.Common.{length, map, replicate, take, refl, sym, subst, ap, ◌∙◌, arith, append_assoc}
+use Rattle.std.proofs.Common.{◌≡◌, ℕ, ◌+◌, ◌^◌, ◌<◌, List, [], ◌++◌, Option, None, Some, Result, Ok}
+use Rattle.std.proofs.Common.{length, map, refl, sym, subst, ap, ◌∙◌, append_assoc}
 use Rattle.std.specs.Prelude.{All, IfOk}
-use Rattle.std.proofs.lemmas.List.{length-map}
 use Rattle.tty_base.specs.declared.characters.Flagged.{Flagged}
 use Rattle.word_ring.specs.Ends.{PutterState}
 use Rattle.uart_line.specs.LineState.{LineState}
 use Rattle.uart_line.specs.Received.{closed_script}
-use Rattle.tty_calls.specs.Limits.{IsWithinLimits}
-use Rattle.tty_calls.specs.Sessions.{counts_on, session_of, ticks_on}
-use Rattle.journal_check.specs.Legal.{phase_at}
+use Rattle.tty_calls.specs.Sessions.{ticks_on}
+use Rattle.legal_runs.specs.Legal.{phase_at}
 use Rattle.port_core.specs.Ports.{PortValue}
-use Rattle.one_thread.specs.Roles.{PlainRole, Scene, AreFirstSteps, names_in, role_in, scene_of}
-use Rattle.one_thread.specs.Casting.{scripts_at, steps_after}
-use Rattle.one_thread.specs.declared.phases.Station.{Station}
-use Rattle.one_thread.proofs.RoleLemmas.{IsCastIn, cast_in, few_scripts, moved_on, roles_few, roles_within, sum_counts}
+use Rattle.play_base.specs.Roles.{PlainRole, Scene, AreFirstSteps, role_in, scene_of}
+use Rattle.play_base.specs.Casting.{scripts_at, steps_after}
+use Rattle.play_base.specs.declared.stations.Station.{Station}
+use Rattle.play_base.proofs.RoleLemmas.{IsCastIn, cast_in, moved_on, roles_few, roles_within}
 use Rattle.tty_port.specs.Calls.{PortSeat}
 use Rattle.tty_port.specs.declared.shared.SharedPort.{SharedPort}
 use Rattle.many_threads.specs.declared.caller_threads.CallersBack.{CallersBack}
 use Rattle.many_threads.specs.declared.thread_bodies.FlusherBack.{FlusherBack}
-use Rattle.many_threads.specs.declared.seats.Seats.{Seats}
 use Rattle.many_threads.specs.declared.shared_phase.PhaseWork.{PhaseWork}
 use Rattle.many_threads.specs.declared.shared_phase.PhaseEnd.{PhaseEnd}
 use Rattle.many_threads.specs.declared.shared_phase.PhaseEnd.TheVariants.{Over, Full}
@@ -31,13 +28,13 @@ use Rattle.vt_consoles.specs.declared.entries.VtEntry.{VtEntry}
 use Rattle.vt_text.specs.declared.sessions.VtSession.{VtSession}
 use Rattle.vt_text.specs.Sessions.{PlainVtSession, vt_session_of}
 use Rattle.vt_account.specs.Keyed.{IsWithinKeys, key_line, keyed, keys_to}
-use Rattle.vt_threads.specs.Between.{ConsoleStands, IsConsoleBefore, IsFullBefore, StandsKeyed}
-use Rattle.vt_threads.specs.Keying.{DoesSteps}
-use Rattle.vt_threads.specs.Consoles.{ConsoleComes, ConsoleComesIf}
-use Rattle.vt_threads.specs.Halves.{IsShut, SomeThreadsOver, ThreadsOver, crew_back, with_steps}
+use Rattle.vt_threads.specs.Between.{ConsoleStands, IsConsoleBefore, IsFullBefore}
+use Rattle.vt_keyboard.specs.Keying.{DoesSteps}
+use Rattle.vt_keyboard.specs.Consoles.{ConsoleComes, ConsoleComesIf}
+use Rattle.vt_threads.specs.Halves.{IsShut, ThreadsOver, crew_back, with_steps}
 use Rattle.vt_threads.specs.Parting.{CanPutTogether, HasMovedOn, IsPartedFull, IsPartedShared}
 use Rattle.vt_threads.specs.Parting.{IsPlayedIn, IsPutTogether, OwnCame, OwnPlayed, PartedAs}
-use Rattle.vt_threads.specs.declared.console_ends.KeySeats.{KeySeats}
+use Rattle.vt_keyboard.specs.declared.console_ends.KeySeats.{KeySeats}
 use Rattle.vt_threads.specs.declared.consoles.Console.{Console}
 use Rattle.vt_threads.specs.declared.parting.Casting.{Casting}
 use Rattle.vt_threads.specs.declared.parting.Rest.{Rest}
@@ -245,7 +242,7 @@ module _ (session : VtSession) (within : IsWithinKeys (vt_session_of session)) (
   steps_within = roles_within (scene_of p session.calls) k old.steps.items
       (map (role_in (scripts_at session.calls k)) h.q.rest.casting.roles.items) cast h.parted.roles_are
 
-  pub steps_few : All (λ r. r.first + length r.calls < 4294967296)
+  pub steps_few : All (λ r. r.first + length r.calls < 2 ^ 32)
       (map (role_in (scripts_at session.calls k)) h.q.rest.casting.roles.items)
   steps_few = roles_few (scene_of p session.calls) k old.steps.items
       (map (role_in (scripts_at session.calls k)) h.q.rest.casting.roles.items) cast h.parted.roles_are
@@ -270,10 +267,10 @@ module _ (session : VtSession) (within : IsWithinKeys (vt_session_of session)) (
 
   pub moved_few : (casting : Casting)
       → casting ≡ b.rest.casting
-      → All (λ r. r.first + length r.calls < 4294967296)
+      → All (λ r. r.first + length r.calls < 2 ^ 32)
       (map (role_in (scripts_at session.calls k)) casting.roles.items)
   moved_few casting is = subst (λ (x : Casting).
-      All (λ r. r.first + length r.calls < 4294967296) (map (role_in (scripts_at session.calls k)) x.roles.items))
+      All (λ r. r.first + length r.calls < 2 ^ 32) (map (role_in (scripts_at session.calls k)) x.roles.items))
       (sym (is ∙ ap (λ (r : Rest). r.casting) h.rest_is)) steps_few
 
   -- ---- the console before the next phase

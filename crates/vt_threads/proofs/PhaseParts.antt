@@ -18,9 +18,9 @@ use Rattle.vt_consoles.specs.Histories.{history_of, stamped}
 use Rattle.vt_text.specs.declared.sessions.OpCall.{OpCall}
 use Rattle.vt_text.specs.Sessions.{PlainOperator, PlainVtPhase, PlainVtSession}
 use Rattle.vt_account.specs.Seats.{operator_names}
-use Rattle.vt_account.specs.Account.{accepted, call_in, index_in, calls_at, is_seat, IsPartOf, HasParts}
+use Rattle.vt_account.specs.Account.{granted, call_in, index_in, calls_at, is_seat, IsPhasePart, HasParts}
 use Rattle.vt_account.specs.Keyed.{console_in, consoles_in}
-use Rattle.vt_threads.specs.Phases.{MadeBy, key_events, PhaseMade, AddsPart, HasPartsUpTo}
+use Rattle.vt_keyboard.specs.Phases.{MadeBy, key_events, PhaseMade, AddsPart, HasPartsUpTo}
 
 -- ---- entries as the history has them
 
@@ -214,13 +214,13 @@ module _ (session : PlainVtSession) (phase : PlainVtPhase) (first : ℕ) (went :
       ∙ ap (λ (t : Bool). if t then range_with_len first (length phase.keys) else [])
       (sym (ne_eqb m n (λ e. absurd (omega (arith, e, lt)))))
 
-  none_for : (n : ℕ) → m ≤ n → flat_map (accepted session.calls.ports) (calls_at names n phase) ≡ []
+  none_for : (n : ℕ) → m ≤ n → flat_map (granted session.calls.ports) (calls_at names n phase) ≡ []
   none_for n le =
-      ap (λ (l : List OpCall). flat_map (accepted session.calls.ports) l) (none_at names n phase.operators le)
+      ap (λ (l : List OpCall). flat_map (granted session.calls.ports) l) (none_at names n phase.operators le)
 
   calls : (n : ℕ)
       → (m ≡ n) ⊎ ((m < n) ⊎ (n < m))
-      → flat_map call_in (events_by n rest) ≡ flat_map (accepted session.calls.ports) (calls_at names n phase)
+      → flat_map call_in (events_by n rest) ≡ flat_map (granted session.calls.ports) (calls_at names n phase)
   calls n (inl e) =
       ap (λ (k : ℕ). flat_map call_in (events_by k rest)) (sym e)
       ∙ ap (λ (l : List VtEvent). flat_map call_in l) keys_made
@@ -232,7 +232,7 @@ module _ (session : PlainVtSession) (phase : PlainVtPhase) (first : ℕ) (went :
   calls n (inr (inr lt)) =
       ap (λ (l : List VtEvent). flat_map call_in l) (operator_made n lt)
       ∙ (h.operators n lt).answers
-      ∙ ap (λ (k : ℕ). flat_map (accepted k) (calls_at names n phase)) same
+      ∙ ap (λ (k : ℕ). flat_map (granted k) (calls_at names n phase)) same
 
   alone : (n : ℕ) → n ≢ m → (m ≡ n) ⊎ ((m < n) ⊎ (n < m)) → flat_map index_in (events_by n rest) ≡ []
   alone n ne (inl e) = absurd (ne (sym e))
@@ -262,7 +262,7 @@ parts_none session others h = h
 pub parts_more : (session : PlainVtSession) (k first : ℕ) (phase : PlainVtPhase) (entries part : List VtEntry)
     → drop k session.phases ≡ phase ∷ drop (k + 1) session.phases
     → HasPartsUpTo session k first entries
-    → IsPartOf session phase first part
+    → IsPhasePart session phase first part
     → HasPartsUpTo session (k + 1) (first + length phase.keys) (entries ++ part)
 parts_more session k first phase entries part e h is others more =
     subst (λ (l : List VtEntry). HasParts session 0 session.phases l) (sym (append_assoc entries part others))

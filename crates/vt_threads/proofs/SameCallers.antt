@@ -1,19 +1,18 @@
 -- What sessions have in common that differ in their lines alone.
-use Rattle.std.proofs.Common.{◌≡◌, ◌==◌, ℕ, zero, suc, ◌+◌, ◌<◌, List, [], ◌∷◌, ◌++◌, Option, Some}
+use Rattle.std.proofs.Common.{◌≡◌, ◌==◌, ℕ, zero, suc, ◌+◌, ◌<◌, List, [], ◌∷◌, ◌++◌, Option}
 use Rattle.std.proofs.Common.{Bool, IsTrue, length, map, filter, take, refl, sym, subst, ap, ◌∙◌, arith}
-use Rattle.std.specs.Prelude.{All, Contains, flat_map, option_to_list, slice_get, slice_index_or, sum}
+use Rattle.std.specs.Prelude.{All, flat_map, option_to_list, slice_get, slice_index_or, sum}
 use Rattle.std.proofs.lemmas.List.{length-map}
 use Rattle.std.proofs.lemmas.List.Elements.{All-head, All-tail, All-nil, All-cons}
 use Rattle.tty_calls.specs.Sessions.{PlainPhase, PlainScript, PlainSession, call_at, calls_of}
 use Rattle.tty_calls.specs.Sessions.{counts_on, names_of, number_in, scripts_on, scripts_over, ticks_on}
-use Rattle.tty_calls.specs.Plain.{PlainCall}
 use Rattle.tty_terminal.specs.Steps.{callers_in}
-use Rattle.journal_check.specs.Legal.{IsCallerOf, first_step, has_script, name_at, phase_at, steps_in}
-use Rattle.one_thread.specs.Order.{callers_of}
-use Rattle.one_thread.specs.Roles.{Scene, PlainRole, AreFirstSteps, AreRolesOf, IsRoleOf, names_in, numbers_in}
+use Rattle.legal_runs.specs.Legal.{first_step, has_script, name_at, phase_at, steps_in}
+use Rattle.one_order.specs.Order.{callers_of}
+use Rattle.play_base.specs.Roles.{PlainRole, AreFirstSteps, AreRolesOf, IsRoleOf, names_in}
 use Rattle.vt_consoles.specs.declared.entries.VtEntry.{VtEntry}
 use Rattle.vt_text.specs.Sessions.{PlainVtPhase, PlainVtSession}
-use Rattle.vt_account.specs.Keyed.{IsWhole, consoles_in, keyed, keyed_phases}
+use Rattle.vt_account.specs.Keyed.{HasAllPhases, consoles_in, keyed, keyed_phases}
 use Rattle.vt_threads.specs.Openings.{DifferInLines}
 
 -- ---- lists of phases by their callers
@@ -188,7 +187,7 @@ keyed_ticks ports consoles (keyboard ∷ keyboards) (phase ∷ phases) e =
     ap (λ (l : List (List ℕ)). phase.ticks ∷ l) (keyed_ticks ports _ keyboards phases (omega (arith, e)))
 
 pub keyed_differs : (session : PlainVtSession) (entries : List VtEntry)
-    → IsWhole session
+    → HasAllPhases session
     → DifferInLines (keyed session entries) session.calls
 keyed_differs session entries whole = record {
   flips = refl;

@@ -12,8 +12,8 @@ use Rattle.vt_consoles.specs.Histories.{history_of}
 use Rattle.vt_consoles.specs.Seats.{BoardSeat, HasAllOf}
 use Rattle.vt_consoles.specs.Shared.{opening_board, seats_of}
 use Rattle.vt_text.specs.Sessions.{PlainVtPhase}
-use Rattle.vt_account.specs.Account.{accepted, calls_at}
-use Rattle.vt_threads.specs.Phases.{MadeBy, key_events, PhaseMade}
+use Rattle.vt_account.specs.Account.{granted, calls_at}
+use Rattle.vt_keyboard.specs.Phases.{MadeBy, key_events, PhaseMade}
 use Rattle.vt_threads.specs.Closing.{MadeSince, SeatsPlayed}
 
 some_same : (x y : BoardSeat) → Some x ≡ Some y → x ≡ y
@@ -54,7 +54,7 @@ phase_made names phase first went b seats w all goes each h = record {
         made = made_by n s (history_of (opening_board b)) (history_of w) o.events number
             (at_seat (HasAllOf (history_of w)) seats found.0 s each at) o.made;
         answers =
-            o.answers ∙ ap (λ (k : ℕ). flat_map (accepted (opening_board b).consoles) (calls_at names k phase)) number;
+            o.answers ∙ ap (λ (k : ℕ). flat_map (granted (opening_board b).consoles) (calls_at names k phase)) number;
         no_keys = o.no_keys;
       };
   keyboard =

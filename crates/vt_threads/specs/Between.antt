@@ -1,13 +1,14 @@
 -- A console between two phases.
 use Rattle.std.specs.Prelude.{◌≡◌, ◌≤◌, ℕ, List, [], ◌++◌, length, sum}
+use Rattle.tty_base.specs.Sizes.{MOST_ENTRIES}
 use Rattle.tty_calls.specs.Limits.{character_count}
 use Rattle.tty_calls.specs.Sessions.{counts_on}
-use Rattle.journal_check.specs.Legal.{script_of_first}
-use Rattle.journal_check.specs.Short.{after_phases}
-use Rattle.one_thread.specs.Roles.{Scene, AreFirstSteps, names_in}
-use Rattle.one_thread.specs.Lines.{HasPut}
-use Rattle.one_thread.specs.Phases.{HasFewTicks, IsPortOf}
-use Rattle.one_thread.specs.declared.phases.Station.{Station}
+use Rattle.legal_runs.specs.Legal.{script_of_first}
+use Rattle.legal_runs.specs.Short.{after_phases}
+use Rattle.play_base.specs.Roles.{Scene, AreFirstSteps, names_in}
+use Rattle.play_base.specs.Putting.{HasPut}
+use Rattle.play_base.specs.Phases.{HasFewTicks, IsPortOf}
+use Rattle.play_base.specs.declared.stations.Station.{Station}
 use Rattle.many_threads.specs.InPlay.{IsBeforePhase}
 use Rattle.many_threads.specs.declared.shared_phase.PhaseEnd.{PhaseEnd}
 use Rattle.many_threads.specs.declared.shared_phase.PhaseEnd.TheVariants.{Over, Full}
@@ -19,7 +20,7 @@ use Rattle.vt_threads.specs.declared.consoles.Console.{Console}
 -- The journal is full, and the line has done the phases before phase k: its keys go on after its journal was full.
 pub record IsFullBefore (s : Scene) (k : ℕ) (station : Station) : Type 0 where
   pub port_of : IsPortOf s station.port
-  pub full : length station.port.journal ≡ 4194304
+  pub full : length station.port.journal ≡ MOST_ENTRIES
   pub ticks : HasFewTicks s station.port.journal
   pub last : after_phases (length s.session.phases) station.port.journal ≡ []
   pub has_put : HasPut station.port station.putter station.line (script_of_first s.port s.session k)

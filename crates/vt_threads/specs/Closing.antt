@@ -9,8 +9,8 @@ use Rattle.vt_consoles.specs.Histories.{history_of, stamped}
 use Rattle.vt_consoles.specs.Seats.{BoardSeat}
 use Rattle.vt_consoles.specs.Shared.{opening_board, seats_of}
 use Rattle.vt_text.specs.Sessions.{PlainVtPhase}
-use Rattle.vt_account.specs.Account.{accepted, call_in, index_in, calls_at}
-use Rattle.vt_threads.specs.Phases.{key_events}
+use Rattle.vt_account.specs.Account.{granted, call_in, index_in, calls_at}
+use Rattle.vt_keyboard.specs.Phases.{key_events}
 
 -- since the board had this history the seat made entries of these events, in order, and no others
 abbrev pub MadeSince : List (Stamped VtEvent) → BoardSeat → List VtEvent → Type 0
@@ -21,7 +21,7 @@ pub record OperatorPlayed (consoles : ℕ) (names : List (List ℕ)) (phase : Pl
     (s : BoardSeat) : Type 0 where
   pub events : List VtEvent
   pub made : MadeSince xs s events
-  pub answers : flat_map call_in events ≡ flat_map (accepted consoles) (calls_at names (number_of s) phase)
+  pub answers : flat_map call_in events ≡ flat_map (granted consoles) (calls_at names (number_of s) phase)
   pub no_keys : flat_map index_in events ≡ []
 
 -- Since the board was shared each of its seats played its part of a phase: the operators, whose names these are, their

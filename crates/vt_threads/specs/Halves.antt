@@ -1,25 +1,22 @@
 -- A phase of a console in two halves round its threads: the port is shared, and later whole again.
-use Rattle.std.specs.Prelude.{◌≡◌, ℕ, List, [], true, false, length, reverse}
+use Rattle.std.specs.Prelude.{◌≡◌, ℕ, List, [], false, length, reverse}
 use Rattle.tty_base.specs.declared.lines.LineStep.{LineStep}
 use Rattle.uart_line.specs.Received.{is_masked, waiting_list}
 use Rattle.tty_base.specs.declared.characters.Flagged.{Flagged}
 use Rattle.word_ring.specs.Ends.{PutterState}
 use Rattle.uart_line.specs.LineState.{LineState}
-use Rattle.tty_terminal.specs.Steps.{may_end}
 use Rattle.port_core.specs.Flips.{MeetsTaker, after_meeting}
 use Rattle.port_core.specs.Ports.{PortValue}
-use Rattle.one_thread.specs.Roles.{Scene}
-use Rattle.one_thread.specs.declared.phases.Station.{Station}
+use Rattle.play_base.specs.Roles.{Scene}
+use Rattle.play_base.specs.declared.stations.Station.{Station}
 use Rattle.tty_port.specs.Calls.{PortSeat}
 use Rattle.tty_port.specs.declared.shared.SharedPort.{SharedPort}
 use Rattle.many_threads.specs.declared.crew.CrewBack.{CrewBack}
 use Rattle.many_threads.specs.declared.caller_threads.CallersBack.{CallersBack}
 use Rattle.many_threads.specs.declared.thread_bodies.FlusherBack.{FlusherBack}
-use Rattle.vt_threads.specs.declared.console_ends.KeySeats.{KeySeats}
+use Rattle.vt_keyboard.specs.declared.console_ends.KeySeats.{KeySeats}
 use Rattle.many_threads.specs.declared.seats.Seats.{Seats}
 use Rattle.many_threads.specs.declared.shared_phase.PhaseWork.{PhaseWork}
-use Rattle.many_threads.specs.declared.shared_phase.PhaseEnd.{PhaseEnd}
-use Rattle.many_threads.specs.declared.shared_phase.PhaseEnd.TheVariants.{Over, Full}
 use Rattle.many_threads.specs.Crew.{CrewComes, crew_in}
 use Rattle.many_threads.specs.PhaseStarts.{CanPlayPhase}
 use Rattle.many_threads.specs.PhaseEnds.{IsShared}
@@ -52,18 +49,12 @@ pub record SomeThreadsOver (p : SharedPort) (session : PortSeat) (back : CrewBac
   pub putter : PutterState Flagged
   pub over : ThreadsOver s old work p dealt line putter session back
 
--- the phase of a console may end, where its flusher would go on
-abbrev pub CanFinish : Station → PhaseEnd → Type 0
-CanFinish station (Over next) =
-    (may_end station.port.counts station.port.terminal ≡ true) × (station.putter.ring ≡ station.port.flip.ring)
-CanFinish station Full = Unit {0}
-
 -- the work of a phase with other steps on its line
 abbrev pub with_steps : List LineStep → PhaseWork → PhaseWork
 with_steps steps work = record work { steps = record work.steps { now = record work.steps.now { items = steps } } }
 
 -- after these steps of a line nothing is held back, and nothing waits
-pub record IsAtRest (before : List LineStep) : Type 0 where
+pub record IsDrained (before : List LineStep) : Type 0 where
   pub unmasked : is_masked (reverse before) ≡ false
   pub none_waits : waiting_list before ≡ []
 

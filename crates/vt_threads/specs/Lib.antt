@@ -1,8 +1,4 @@
-pub mod Operating
-pub mod Phases
 pub mod Closing
-pub mod Keying
-pub mod Consoles
 pub mod Halves
 pub mod Between
 pub mod Openings

@@ -6,10 +6,10 @@ use Rattle.uart_line.specs.LineState.{LineState}
 use Rattle.tty_calls.specs.declared.sessions.Script.{Script}
 use Rattle.tty_calls.specs.declared.sessions.Session.{Session}
 use Rattle.tty_calls.specs.Sessions.{session_of, ticks_on}
-use Rattle.journal_check.specs.Legal.{phase_at}
-use Rattle.one_thread.specs.Roles.{PlainRole, Scene, AreRolesOf, role_in, scene_of}
-use Rattle.one_thread.specs.Casting.{scripts_at, steps_after}
-use Rattle.one_thread.specs.declared.phases.Station.{Station}
+use Rattle.legal_runs.specs.Legal.{phase_at}
+use Rattle.play_base.specs.Roles.{PlainRole, Scene, AreRolesOf, role_in, scene_of}
+use Rattle.play_base.specs.Casting.{scripts_at, steps_after}
+use Rattle.play_base.specs.declared.stations.Station.{Station}
 use Rattle.tty_port.specs.declared.shared.SharedPort.{SharedPort}
 use Rattle.many_threads.specs.declared.caller_threads.CallersBack.{CallersBack}
 use Rattle.many_threads.specs.declared.thread_bodies.FlusherBack.{FlusherBack}
@@ -26,9 +26,9 @@ use Rattle.vt_text.specs.declared.sessions.VtSession.{VtSession}
 use Rattle.vt_text.specs.Sessions.{PlainVtPhase, PlainVtSession, vt_session_of}
 use Rattle.vt_account.specs.Keyed.{all_keys, consoles_in, keys_to}
 use Rattle.vt_threads.specs.Between.{IsConsoleBefore}
-use Rattle.vt_threads.specs.Consoles.{ConsoleComesIf}
+use Rattle.vt_keyboard.specs.Consoles.{ConsoleComesIf}
 use Rattle.vt_threads.specs.Halves.{IsShut, SomeThreadsOver, ThreadsOver, crew_back}
-use Rattle.vt_threads.specs.declared.console_ends.KeySeats.{KeySeats}
+use Rattle.vt_keyboard.specs.declared.console_ends.KeySeats.{KeySeats}
 use Rattle.vt_threads.specs.declared.consoles.Console.{Console}
 use Rattle.vt_threads.specs.declared.console_phase.Shut.{Shut}
 use Rattle.vt_threads.specs.declared.parting.Casting.{Casting}

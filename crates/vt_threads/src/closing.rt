@@ -8,7 +8,7 @@ ghost use Rattle.vt_consoles.specs.Histories.{name_of};
 ghost use Rattle.vt_consoles.specs.Shared.{IsHere, name_of_board, opening_board, seats_of};
 ghost use Rattle.vt_text.specs.Sessions.{PlainVtPhase};
 ghost use Rattle.vt_threads.specs.Closing.{SeatsPlayed};
-ghost use Rattle.vt_threads.specs.Phases.{PhaseMade};
+ghost use Rattle.vt_keyboard.specs.Phases.{PhaseMade};
 
 use vt_consoles::{Board, Seat, SharedBoard};
 

@@ -1,22 +1,22 @@
 //! A phase of a console in two halves round its threads: its port is shared, and later whole again.
 
 ghost use Rattle.std.specs.Prelude.{◌≡◌, ◌≤◌, IfOk};
+ghost use Rattle.tty_base.specs.Sizes.{MOST_CALLER_SEATS};
 ghost use Rattle.tty_base.specs.declared.characters.Flagged.{Flagged};
 ghost use Rattle.uart_line.specs.LineState.{LineState};
 ghost use Rattle.word_ring.specs.Ends.{PutterState};
-ghost use Rattle.one_thread.specs.Roles.{Scene};
-ghost use Rattle.one_thread.specs.declared.phases.Station.{Station};
+ghost use Rattle.play_base.specs.Roles.{Scene};
+ghost use Rattle.play_base.specs.declared.stations.Station.{Station};
 ghost use Rattle.many_threads.specs.declared.seats.Seats.{Seats};
 ghost use Rattle.many_threads.specs.declared.shared_phase.PhaseWork.{PhaseWork};
-ghost use Rattle.many_threads.specs.PhaseStarts.{CanPlayPhase};
-ghost use Rattle.many_threads.specs.PhaseEnds.{PhaseComes, ThreadsLeave};
-ghost use Rattle.vt_threads.specs.Halves.{CanFinish, IsShut, SomeThreadsOver, ThreadsOver};
+ghost use Rattle.many_threads.specs.PhaseEnds.{PhaseComes};
+ghost use Rattle.vt_threads.specs.Halves.{IsShut, SomeThreadsOver, ThreadsOver};
 
 use flip_buffer::FlipIn;
 use many_threads::{
-    CrewBack, PhaseBack, PhaseEnd, Seats, beside, end_phase, share, take_together, unshare,
+    CrewBack, PhaseBack, PhaseEnd, Seats, finish_phase, share, take_together, unshare,
 };
-use one_thread::Station;
+use play_base::Station;
 use std::alloc::Global;
 use tty_base::NoMemory;
 use tty_port::{Seat, SharedPort};
@@ -34,7 +34,7 @@ pub struct Shut {
 
 /// Shares the port of a console that has so many callers, and deals out its seats.
 pub fn share_console(alloc: Global, mut station: Station, callers: usize) -> Result<Shut, NoMemory>
-    requires few { callers ≤ 4092 }
+    requires few { callers ≤ MOST_CALLER_SEATS }
     requires ring { station.putter.ring ≡ station.port.flip.ring }
     ensures shut { IfOk result (λ r. IsShut station callers r.shared r.dealt r.line r.putter) }
     ensures steps { IfOk result (λ r. r.steps ≡ station.steps) }
@@ -85,21 +85,5 @@ pub fn unshare_console(
         line,
         steps,
     };
-    finish(left, end)
-}
-
-/// Ends the phase of a console where it may end.
-fn finish(mut left: Station, end: PhaseEnd) -> Result<(Station, PhaseEnd), NoMemory>
-    requires { CanFinish left end }
-    ensures comes { (s : Scene) (old : Station) (work : PhaseWork)
-        → CanPlayPhase s old work
-        → ThreadsLeave s work.phase old left end
-        → IfOk result (λ r. PhaseComes s work.phase old r.0 r.1) }
-    ensures steps { IfOk result (λ r. r.0.steps ≡ left.steps) }
-{
-    let PhaseEnd::Over(next) = end else {
-        return Ok((left, PhaseEnd::Full));
-    };
-    let end = end_phase(&mut left.port, &mut left.putter, next);
-    beside(left, end)
+    finish_phase(left, end)
 }

@@ -7,7 +7,7 @@ ghost use Rattle.vt_threads.specs.Between.{IsConsoleBefore};
 
 use crate::opening::open_console;
 use many_threads::{PhaseEnd, caller_count};
-use one_thread::{Station, counts_of};
+use play_base::{Station, counts_of};
 use std::alloc::Global;
 use tty_base::NoMemory;
 use tty_calls::Names;

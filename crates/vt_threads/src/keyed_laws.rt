@@ -6,13 +6,13 @@ ghost use Rattle.tty_base.specs.declared.characters.Flagged.{Flagged};
 ghost use Rattle.word_ring.specs.Ends.{PutterState};
 ghost use Rattle.uart_line.specs.LineState.{LineState};
 ghost use Rattle.tty_calls.specs.Sessions.{PlainSession, counts_on, ticks_on};
-ghost use Rattle.journal_check.specs.Legal.{phase_at, script_of_first};
+ghost use Rattle.legal_runs.specs.Legal.{phase_at, script_of_first};
 ghost use Rattle.port_core.specs.Ports.{PortValue};
-ghost use Rattle.one_thread.specs.Phases.{IsFullRun, IsPortOf};
-ghost use Rattle.one_thread.specs.Roles.{Scene, AreFirstSteps, AreRolesOf, role_in};
-ghost use Rattle.one_thread.specs.Lines.{HasPut};
-ghost use Rattle.one_thread.specs.declared.roles.Role.{Role};
-ghost use Rattle.one_thread.specs.declared.phases.Station.{Station};
+ghost use Rattle.play_base.specs.Phases.{IsFullRun, IsPortOf};
+ghost use Rattle.play_base.specs.Roles.{Scene, AreFirstSteps, AreRolesOf, role_in};
+ghost use Rattle.play_base.specs.Putting.{HasPut};
+ghost use Rattle.play_base.specs.declared.roles.Role.{Role};
+ghost use Rattle.play_base.specs.declared.stations.Station.{Station};
 ghost use Rattle.many_threads.specs.Cast.{seated};
 ghost use Rattle.many_threads.specs.InPlay.{IsBeforePhase};
 ghost use Rattle.many_threads.specs.PhaseStarts.{CanPlayPhase};
@@ -35,14 +35,14 @@ ghost use Rattle.vt_consoles.specs.declared.shared.SharedBoard.{SharedBoard};
 ghost use Rattle.vt_consoles.specs.Histories.{history_of};
 ghost use Rattle.vt_consoles.specs.Seats.{BoardSeat};
 ghost use Rattle.vt_consoles.specs.Shared.{opening_board};
-ghost use Rattle.vt_threads.specs.declared.console_ends.KeySeats.{KeySeats};
+ghost use Rattle.vt_keyboard.specs.declared.console_ends.KeySeats.{KeySeats};
 ghost use Rattle.vt_threads.specs.Closing.{MadeSince, OperatorPlayed};
-ghost use Rattle.vt_threads.specs.Consoles.{ConsoleComes};
+ghost use Rattle.vt_keyboard.specs.Consoles.{ConsoleComes};
 ghost use Rattle.vt_threads.specs.Halves.{crew_back, with_steps};
 ghost use Rattle.vt_threads.specs.Between.{ConsoleStands, IsFullBefore};
-ghost use Rattle.vt_threads.specs.Keying.{CanBegin, DoesSteps};
+ghost use Rattle.vt_keyboard.specs.Keying.{CanBegin, DoesSteps};
 ghost use Rattle.uart_line.specs.Received.{closed_script};
-ghost use Rattle.vt_threads.specs.Operating.{AnswersCalls, MakesAll, calls_of_seat};
+ghost use Rattle.vt_keyboard.specs.Operating.{AnswersCalls, MakesAll, calls_of_seat};
 
 /// A law: before a phase of the session that a console plays once the keys have come, whatever entries follow, it can
 /// play the phase's work with these keys on its line.

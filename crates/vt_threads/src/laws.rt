@@ -8,8 +8,8 @@ ghost use Rattle.uart_line.specs.LineState.{LineState};
 ghost use Rattle.uart_line.specs.Received.{closed_script};
 ghost use Rattle.word_ring.specs.Ends.{PutterState};
 ghost use Rattle.tty_calls.specs.Sessions.{PlainSession, line_on};
-ghost use Rattle.journal_check.specs.Legal.{phase_at};
-ghost use Rattle.one_thread.specs.Roles.{PlainRole, AreFirstSteps, AreRolesOf};
+ghost use Rattle.legal_runs.specs.Legal.{phase_at};
+ghost use Rattle.play_base.specs.Roles.{PlainRole, AreFirstSteps, AreRolesOf};
 ghost use Rattle.port_cell.specs.declared.kept.Stamped.{Stamped};
 ghost use Rattle.port_cell.specs.Entries.{Each};
 ghost use Rattle.vt_consoles.specs.declared.entries.VtEntry.{VtEntry};
@@ -17,10 +17,10 @@ ghost use Rattle.vt_consoles.specs.declared.entries.VtEvent.{VtEvent};
 ghost use Rattle.vt_consoles.specs.Boards.{BoardState, IsBoard};
 ghost use Rattle.vt_text.specs.Sessions.{PlainVtPhase, PlainVtSession};
 ghost use Rattle.vt_account.specs.Seats.{operator_names};
-ghost use Rattle.vt_account.specs.Account.{IsAccount, IsPartOf};
-ghost use Rattle.vt_account.specs.Keyed.{IsWhole, all_keys, consoles_in, key_line, keyed, keys_to};
-ghost use Rattle.vt_threads.specs.Keying.{DoesSteps};
-ghost use Rattle.vt_threads.specs.Phases.{PhaseMade, AddsPart, HasPartsUpTo};
+ghost use Rattle.vt_account.specs.Account.{IsAccount, IsPhasePart};
+ghost use Rattle.vt_account.specs.Keyed.{HasAllPhases, all_keys, consoles_in, key_line, keyed, keys_to};
+ghost use Rattle.vt_keyboard.specs.Keying.{DoesSteps};
+ghost use Rattle.vt_keyboard.specs.Phases.{PhaseMade, AddsPart, HasPartsUpTo};
 ghost use Rattle.vt_threads.specs.Openings.{DifferInLines};
 ghost use Rattle.vt_threads.specs.Counting.{count_below};
 
@@ -38,7 +38,7 @@ pub fn parts_make_an_account()
     ensures more { (session : PlainVtSession) (k first : ℕ) (phase : PlainVtPhase) (entries part : List VtEntry)
         → drop k session.phases ≡ phase ∷ drop (k + 1) session.phases
         → HasPartsUpTo session k first entries
-        → IsPartOf session phase first part
+        → IsPhasePart session phase first part
         → HasPartsUpTo session (k + 1) (first + length phase.keys) (entries ++ part) }
     ensures all { (session : PlainVtSession) (first : ℕ) (b : BoardState)
         → IsBoard b → b.consoles ≡ session.calls.ports → HasPartsUpTo session (length session.phases) first b.entries
@@ -49,7 +49,7 @@ pub fn parts_make_an_account()
 pub fn keys_come_in_their_phase()
     ensures { (session : PlainVtSession) (p k : ℕ) (phase : PlainVtPhase) (entries part more : List VtEntry)
         (went : List ℕ)
-        → IsWhole session
+        → HasAllPhases session
         → p < session.calls.ports
         → slice_get session.phases k ≡ Some phase
         → consoles_in part ≡ went
@@ -71,7 +71,7 @@ pub fn keys_are_a_line()
 /// entries the board has.
 pub fn keyed_sessions_differ_in_lines()
     ensures { (session : PlainVtSession) (entries : List VtEntry)
-        → IsWhole session
+        → HasAllPhases session
         → DifferInLines (keyed session entries) session.calls }
 {}
 

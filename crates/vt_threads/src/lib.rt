@@ -1,27 +1,18 @@
-//! A session of consoles played on threads: what the keyboard and the operators do in a phase, side by side, and a
-//! console from one phase to the next.
+//! A session of consoles played on threads: a console from one phase to the next, and what follows from the
+//! definitions alone.
 #![tactic(auto)]
 
 mod closing;
-mod console_ends;
 mod console_phase;
 mod consoles;
-mod keyboard;
-mod keyboard_thread;
 mod keyed_laws;
 mod laws;
-mod lines;
-mod notes;
 mod opening;
-mod operators;
 mod parting;
 
 pub use closing::close_board;
-pub use console_ends::KeySeats;
 pub use console_phase::{Shut, share_console, unshare_console};
 pub use consoles::{Console, open_first};
-pub use keyboard::{KeyLines, press_all};
-pub use keyboard_thread::{KeyWork, Keyboard, play_keyboard};
 pub use keyed_laws::{
     a_phase_is_played_with_its_keys, a_phase_leads_to_the_next, console_threads_are_a_crew,
     keys_go_on_after_a_full_journal, lines_rest_between_phases, seats_played_since_the_opening,
@@ -30,9 +21,7 @@ pub use laws::{
     callers_are_the_same, entries_are_counted_by_seat, keyed_sessions_differ_in_lines,
     keys_are_a_line, keys_come_in_their_phase, parts_make_an_account, seats_make_their_phase,
 };
-pub use lines::{begin_all, end_all};
 pub use opening::open_console;
-pub use operators::operate;
 pub use parting::{
     Casting, OwnSeats, Parted, PartedBack, Rest, Standing, part_console, whole_console,
 };

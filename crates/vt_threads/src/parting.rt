@@ -2,14 +2,15 @@
 
 ghost use Rattle.std.specs.Prelude.{◌≡◌, ◌≤◌, ◌<◌, ◌+◌, ◌^◌, ◌++◌, List, None, Some};
 ghost use Rattle.std.specs.Prelude.{IsSome, IfOk, All, length, map, replicate, sum};
+ghost use Rattle.tty_base.specs.Sizes.{MOST_CALLER_SEATS};
 ghost use Rattle.tty_base.specs.declared.characters.Flagged.{Flagged};
 ghost use Rattle.word_ring.specs.Ends.{PutterState};
 ghost use Rattle.uart_line.specs.LineState.{LineState};
 ghost use Rattle.tty_calls.specs.Limits.{IsWithinLimits};
 ghost use Rattle.tty_calls.specs.Sessions.{counts_on, session_of};
-ghost use Rattle.one_thread.specs.Roles.{Scene, AreFirstSteps, AreRolesOf, names_in, role_in, scene_of};
-ghost use Rattle.one_thread.specs.Casting.{scripts_at};
-ghost use Rattle.one_thread.specs.declared.phases.Station.{Station};
+ghost use Rattle.play_base.specs.Roles.{Scene, AreFirstSteps, AreRolesOf, names_in, role_in, scene_of};
+ghost use Rattle.play_base.specs.Casting.{scripts_at};
+ghost use Rattle.play_base.specs.declared.stations.Station.{Station};
 ghost use Rattle.many_threads.specs.Cast.{seated};
 ghost use Rattle.many_threads.specs.PhaseEnds.{PhaseComes};
 ghost use Rattle.many_threads.specs.declared.seats.Seats.{Seats};
@@ -22,7 +23,6 @@ ghost use Rattle.vt_threads.specs.Halves.{SomeThreadsOver, ThreadsOver, crew_bac
 ghost use Rattle.vt_threads.specs.Parting.{CanPutTogether, HasMovedOn, IsDealtOut, IsParted, IsPartedFull};
 ghost use Rattle.vt_threads.specs.Parting.{IsPartedShared, IsPlayed, IsPlayedIn, IsPutTogether, IsSomeConsoleBefore};
 
-use crate::console_ends::KeySeats;
 use crate::console_phase::{Shut, share_console, unshare_console};
 use crate::consoles::Console;
 use flip_buffer::FlipIn;
@@ -30,13 +30,14 @@ use many_threads::{
     CallersBack, CrewBack, FlusherBack, LineBack, PhaseEnd, Receiver, SeatBack, Seats, beside,
     seat_roles,
 };
-use one_thread::{Role, Station, move_on, roles_of, scripts_of, ticks_of};
+use play_base::{Role, Station, move_on, roles_of, scripts_of, ticks_of};
 use port_core::Port;
 use std::alloc::Global;
 use tty_base::NoMemory;
 use tty_calls::{Names, Session};
 use tty_port::{Seat, SharedPort};
 use uart_line::Line;
+use vt_keyboard::KeySeats;
 use vt_text::VtSession;
 
 /// The callers of a console in a phase: their names and how many there are in all phases; their roles, and the cast.
@@ -195,7 +196,7 @@ fn part_shared(
     ticks: u32,
     run: u32,
 ) -> Result<Parted, NoMemory>
-    requires few { casting.callers ≤ 4092 }
+    requires few { casting.callers ≤ MOST_CALLER_SEATS }
     requires ring { station.putter.ring ≡ station.port.flip.ring }
     ensures shared { IfOk result (IsPartedShared station casting.callers ticks run) }
     ensures casting { IfOk result (λ q. q.rest.casting ≡ casting) }
@@ -400,6 +401,6 @@ pub fn whole_console(
     } = rest;
     let left = put_together(port, seats, own, line, end, steps, standing);
     let (casting, (station, end)) = beside(casting, left)?;
-    let _number = number;
+    let _number = number; // for the contract alone
     Ok(moved_on(session, k, casting, station, end))
 }

@@ -17,7 +17,7 @@ use Rattle.word_ring.specs.Plays.{with_tail, with_read, with_taken_to, with_put_
 use Rattle.word_ring.specs.Plays.{held, TakesSlot, LoadsHead, StoresLanes, StoresTail, LoadsTail}
 use Rattle.word_ring.specs.Plays.{LoadsLanes, StoresHead, Compares, PutsPast, TakesPast, putter_of}
 use Rattle.word_ring.specs.Plays.{taker_of, note_of, head_note_of, with_note, with_head_note, with_putter}
-use Rattle.word_ring.specs.Rule.{Story, KnowsPuts, KnowsTakes, Knows, Slot, Stands, Ring, place}
+use Rattle.word_ring.specs.Rule.{Story, KnowsPuts, KnowsTakes, Knows, Slot, StandsInLane, Ring, place}
 use Rattle.word_ring.proofs.Beginnings.{begins_itself, begins_more, begins_through, begins_length}
 use Rattle.word_ring.proofs.Beginnings.{begins_longer, begins_take, begins_at, begins_from, begins_whole}
 use Rattle.word_ring.proofs.Reading.{rest_long, rest_at}
@@ -128,8 +128,8 @@ stores_lanes n slots id me at word k puts at_is inner few goes_on fits s r _ her
     let low : at < n / 4 + 4 = subst (λ (z : ℕ). z < n / 4 + 4) (sym place_is) (place_below n (length g.written / 4)) in
     let head = k'.head in
     let room : length xs ≤ length g.taken + n = omega arith in
-    let stands : g.passing ≡ false → Stands n (set s.words at word) (length g.taken) xs = λ still.
-    subst (λ (z : List ℕ). Stands n (set s.words at word) (length g.taken) (whole_words z ++ lanes word k)) (sym same)
+    let stands : g.passing ≡ false → StandsInLane n (set s.words at word) (length g.taken) xs = λ still.
+    subst (λ (z : List ℕ). StandsInLane n (set s.words at word) (length g.taken) (whole_words z ++ lanes word k)) (sym same)
     (stands_lanes n s.words (length g.taken) g.written at word k place_is (omega arith) few
     (subst (λ (z : List ℕ). IsPrefix g.written (whole_words z ++ lanes word k)) same further)
     (subst (λ (z : List ℕ). length (whole_words z ++ lanes word k) ≤ length g.taken + n) same room) (r.stands still)) in
@@ -318,7 +318,7 @@ loads_tail n slots id me takes s r _ here _ =
 
 -- what is read of a word, as far as the tail is known
 read_on : (n : ℕ) (words : List ℕ) (head : ℕ) (read pushed written : List ℕ) (at tail : ℕ)
-    → Stands n words head written
+    → StandsInLane n words head written
     → IsPrefix read pushed
     → IsPrefix pushed written
     → at ≡ place n (length read / 4)
@@ -530,7 +530,7 @@ viewed n s r g' views written pushed taken released out passing one each = recor
   taken = subst (λ (z : List ℕ × List ℕ). IsPrefix z.0 z.1) (λ i. (sym taken i, sym pushed i)) r.taken;
   pushed = subst (λ (z : List ℕ × List ℕ). IsPrefix z.0 z.1) (λ i. (sym pushed i, sym written i)) r.pushed;
   fits = subst (λ (z : List ℕ × List ℕ). length z.0 ≤ length z.1 + n) (λ i. (sym written i, sym taken i)) r.fits;
-  stands = λ still. subst (λ (z : List ℕ × List ℕ). Stands n s.words (length z.0) z.1)
+  stands = λ still. subst (λ (z : List ℕ × List ℕ). StandsInLane n s.words (length z.0) z.1)
       (λ i. (sym taken i, sym written i)) (r.stands (sym passing ∙ still));
   one = one;
   released =

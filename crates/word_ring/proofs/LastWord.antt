@@ -1,11 +1,9 @@
 -- The word of the last numbers put.
 use Rattle.std.proofs.Common.{◌≡◌, ℕ, ◌+◌, ◌-◌, ◌*◌, ◌/◌, ◌%◌, ◌^◌, ◌<◌, ◌≤◌, List, [], ◌∷◌, ◌++◌}
 use Rattle.std.proofs.Common.{length, take, refl, sym, ap, ◌∙◌, arith, append_assoc, length-append}
-use mathlib.Core.List.{IsPrefix}
 use Rattle.std.proofs.lemmas.List.{append-nil}
 use Rattle.std.proofs.Math.Seq.{take-length}
-use Rattle.word_ring.specs.Lanes.{lanes, top_lanes, whole_words}
-use Rattle.word_ring.proofs.Beginnings.{begins_whole}
+use Rattle.word_ring.specs.Lanes.{LANE, lanes, top_lanes, whole_words}
 use Rattle.word_ring.proofs.Packing.{lanes_length, whole_length}
 
 pub long_is : (xs : List ℕ) (word k : ℕ) → length (whole_words xs ++ lanes word k) ≡ length xs / 4 * 4 + k
@@ -35,12 +33,6 @@ whole_full xs word =
     let long : length all ≡ length xs / 4 * 4 + 4 = long_is xs word 4 in
     let is : length all / 4 * 4 ≡ length all = omega arith in
     ap (λ (k : ℕ). take k all) is ∙ take-length all
-
--- with no lane in the last word, all is stored
-pub whole_none : (xs : List ℕ) → IsPrefix xs (whole_words xs ++ []) → xs ≡ whole_words xs ++ []
-whole_none xs p = begins_whole xs (whole_words xs ++ []) p
-    (let front : length (whole_words xs) ≡ length xs / 4 * 4 = whole_length xs in
-    let a = ap length (append-nil (whole_words xs)) in omega arith)
 
 -- which word it is
 pub group_is : (xs : List ℕ) (word sent : ℕ)
@@ -74,4 +66,4 @@ module _ (xs : List ℕ) (word word' sent x : ℕ)
   put_stored ge = let is : (sent + 1) % 4 ≡ 0 = omega arith in
       ap (λ (k : ℕ). whole_words (whole_words xs ++ top_lanes word' 4) ++ top_lanes word' k) is
       ∙ (append-nil (whole_words (whole_words xs ++ top_lanes word' 4))
-      ∙ (whole_full xs (word' / 65536 ^ (4 - 4)) ∙ put_full ge))
+      ∙ (whole_full xs (word' / LANE ^ (4 - 4)) ∙ put_full ge))

@@ -6,33 +6,33 @@ use Rattle.std.proofs.lemmas.Nat.{pow-add}
 use Rattle.std.proofs.Math.ListN.{get_or-append}
 use Rattle.std.proofs.Math.Nat.{div-div-eq-div-mul}
 use Rattle.std.proofs.Math.Seq.{get_or-append_seam}
-use Rattle.word_ring.specs.Lanes.{lane, lanes, top_lanes, whole_words}
+use Rattle.word_ring.specs.Lanes.{LANE, THREE_LANES, TWO_LANES, lane, lanes, top_lanes, whole_words}
 
 -- one more number in the last lane
 pub lay_next : (w x k : ℕ)
     → w < 2 ^ 64
-    → x < 65536
+    → x < LANE
     → k < 4
-    → top_lanes (w / 65536 + x * 281474976710656) (k + 1) ≡ top_lanes w k ++ x ∷ []
+    → top_lanes (w / LANE + x * THREE_LANES) (k + 1) ≡ top_lanes w k ++ x ∷ []
 unfolding lane
 lay_next w x zero small h lt =
-    let a : (w / 65536 + x * 281474976710656) / 281474976710656 / 1 % 65536 ≡ x = omega arith in
+    let a : (w / LANE + x * THREE_LANES) / THREE_LANES / 1 % LANE ≡ x = omega arith in
     λ i. a i ∷ []
 lay_next w x (suc zero) small h lt =
-    let a : (w / 65536 + x * 281474976710656) / 4294967296 / 1 % 65536 ≡ w / 281474976710656 / 1 % 65536 =
+    let a : (w / LANE + x * THREE_LANES) / TWO_LANES / 1 % LANE ≡ w / THREE_LANES / 1 % LANE =
     omega arith in
-    let b : (w / 65536 + x * 281474976710656) / 4294967296 / 65536 % 65536 ≡ x = omega arith in
+    let b : (w / LANE + x * THREE_LANES) / TWO_LANES / LANE % LANE ≡ x = omega arith in
     λ i. a i ∷ b i ∷ []
 lay_next w x (suc (suc zero)) small h lt =
-    let a : (w / 65536 + x * 281474976710656) / 65536 / 1 % 65536 ≡ w / 4294967296 / 1 % 65536 = omega arith in
-    let b : (w / 65536 + x * 281474976710656) / 65536 / 65536 % 65536 ≡ w / 4294967296 / 65536 % 65536 = omega arith in
-    let d : (w / 65536 + x * 281474976710656) / 65536 / 4294967296 % 65536 ≡ x = omega arith in
+    let a : (w / LANE + x * THREE_LANES) / LANE / 1 % LANE ≡ w / TWO_LANES / 1 % LANE = omega arith in
+    let b : (w / LANE + x * THREE_LANES) / LANE / LANE % LANE ≡ w / TWO_LANES / LANE % LANE = omega arith in
+    let d : (w / LANE + x * THREE_LANES) / LANE / TWO_LANES % LANE ≡ x = omega arith in
     λ i. a i ∷ b i ∷ d i ∷ []
 lay_next w x (suc (suc (suc zero))) small h lt =
-    let a : (w / 65536 + x * 281474976710656) / 1 / 1 % 65536 ≡ w / 65536 / 1 % 65536 = omega arith in
-    let b : (w / 65536 + x * 281474976710656) / 1 / 65536 % 65536 ≡ w / 65536 / 65536 % 65536 = omega arith in
-    let d : (w / 65536 + x * 281474976710656) / 1 / 4294967296 % 65536 ≡ w / 65536 / 4294967296 % 65536 = omega arith in
-    let e : (w / 65536 + x * 281474976710656) / 1 / 281474976710656 % 65536 ≡ x = omega arith in
+    let a : (w / LANE + x * THREE_LANES) / 1 / 1 % LANE ≡ w / LANE / 1 % LANE = omega arith in
+    let b : (w / LANE + x * THREE_LANES) / 1 / LANE % LANE ≡ w / LANE / LANE % LANE = omega arith in
+    let d : (w / LANE + x * THREE_LANES) / 1 / TWO_LANES % LANE ≡ w / LANE / TWO_LANES % LANE = omega arith in
+    let e : (w / LANE + x * THREE_LANES) / 1 / THREE_LANES % LANE ≡ x = omega arith in
     λ i. a i ∷ b i ∷ d i ∷ e i ∷ []
 lay_next w x (suc (suc (suc (suc k)))) small h lt = absurd (omega arith)
 
@@ -45,20 +45,20 @@ four_items (a ∷ b ∷ c ∷ d ∷ []) e = refl
 four_items (a ∷ b ∷ c ∷ d ∷ x ∷ xs) e = absurd (omega (arith, e))
 
 -- four numbers in one word
-pub lay_four : (a b c d : ℕ) → a < 65536 → b < 65536 → c < 65536 → d < 65536
-    → lanes (a + b * 65536 + c * 4294967296 + d * 281474976710656) 4 ≡ a ∷ b ∷ c ∷ d ∷ []
+pub lay_four : (a b c d : ℕ) → a < LANE → b < LANE → c < LANE → d < LANE
+    → lanes (a + b * LANE + c * TWO_LANES + d * THREE_LANES) 4 ≡ a ∷ b ∷ c ∷ d ∷ []
 unfolding lane
 lay_four a b c d ha hb hc hd =
-    let w : ℕ = a + b * 65536 + c * 4294967296 + d * 281474976710656 in
-    let p : w / 1 % 65536 ≡ a = omega arith in
-    let q : w / 65536 % 65536 ≡ b = omega arith in
-    let r : w / 4294967296 % 65536 ≡ c = omega arith in
-    let s : w / 281474976710656 % 65536 ≡ d = omega arith in
+    let w : ℕ = a + b * LANE + c * TWO_LANES + d * THREE_LANES in
+    let p : w / 1 % LANE ≡ a = omega arith in
+    let q : w / LANE % LANE ≡ b = omega arith in
+    let r : w / TWO_LANES % LANE ≡ c = omega arith in
+    let s : w / THREE_LANES % LANE ≡ d = omega arith in
     λ i. p i ∷ q i ∷ r i ∷ s i ∷ []
 
 -- all lanes
 pub top_all : (w : ℕ) → top_lanes w 4 ≡ lanes w 4
-top_all w = let is : w / 65536 ^ (4 - 4) ≡ w = omega arith in ap (λ (z : ℕ). lanes z 4) is
+top_all w = let is : w / LANE ^ (4 - 4) ≡ w = omega arith in ap (λ (z : ℕ). lanes z 4) is
 
 -- the last lanes of a word and then the first of the next
 module _ (w n : ℕ) (w_fits : w < 2 ^ 64) (n_fits : n < 2 ^ 64) where
@@ -76,33 +76,33 @@ module _ (w n : ℕ) (w_fits : w < 2 ^ 64) (n_fits : n < 2 ^ 64) where
   unfolding lane
   lay_joined zero some few = absurd (omega arith)
   lay_joined (suc zero) some few =
-      let a : (w / 281474976710656 + (n * 65536) % 18446744073709551616) / 1 % 65536 ≡ w / 281474976710656 / 1 % 65536 =
+      let a : (w / THREE_LANES + (n * LANE) % 18446744073709551616) / 1 % LANE ≡ w / THREE_LANES / 1 % LANE =
       omega arith in
-      let b : (w / 281474976710656 + (n * 65536) % 18446744073709551616) / 65536 % 65536 ≡ n / 1 % 65536 =
+      let b : (w / THREE_LANES + (n * LANE) % 18446744073709551616) / LANE % LANE ≡ n / 1 % LANE =
       omega arith in
-      let d : (w / 281474976710656 + (n * 65536) % 18446744073709551616) / 4294967296 % 65536 ≡ n / 65536 % 65536 =
+      let d : (w / THREE_LANES + (n * LANE) % 18446744073709551616) / TWO_LANES % LANE ≡ n / LANE % LANE =
       omega arith in
-      let e : (w / 281474976710656 + (n * 65536) % 18446744073709551616) / 281474976710656
-      % 65536 ≡ n / 4294967296 % 65536 = omega arith in
+      let e : (w / THREE_LANES + (n * LANE) % 18446744073709551616) / THREE_LANES
+      % LANE ≡ n / TWO_LANES % LANE = omega arith in
       λ i. a i ∷ b i ∷ d i ∷ e i ∷ []
   lay_joined (suc (suc zero)) some few =
-      let a : (w / 4294967296 + (n * 4294967296) % 18446744073709551616) / 1 % 65536 ≡ w / 4294967296 / 1 % 65536 =
+      let a : (w / TWO_LANES + (n * TWO_LANES) % 18446744073709551616) / 1 % LANE ≡ w / TWO_LANES / 1 % LANE =
       omega arith in
-      let b : (w / 4294967296 + (n * 4294967296) % 18446744073709551616) / 65536 % 65536
-      ≡ w / 4294967296 / 65536 % 65536 = omega arith in
-      let d : (w / 4294967296 + (n * 4294967296) % 18446744073709551616) / 4294967296 % 65536 ≡ n / 1 % 65536 =
+      let b : (w / TWO_LANES + (n * TWO_LANES) % 18446744073709551616) / LANE % LANE
+      ≡ w / TWO_LANES / LANE % LANE = omega arith in
+      let d : (w / TWO_LANES + (n * TWO_LANES) % 18446744073709551616) / TWO_LANES % LANE ≡ n / 1 % LANE =
       omega arith in
-      let e : (w / 4294967296 + (n * 4294967296) % 18446744073709551616) / 281474976710656 % 65536 ≡ n / 65536 % 65536 =
+      let e : (w / TWO_LANES + (n * TWO_LANES) % 18446744073709551616) / THREE_LANES % LANE ≡ n / LANE % LANE =
       omega arith in
       λ i. a i ∷ b i ∷ d i ∷ e i ∷ []
   lay_joined (suc (suc (suc zero))) some few =
-      let a : (w / 65536 + (n * 281474976710656) % 18446744073709551616) / 1 % 65536 ≡ w / 65536 / 1 % 65536 =
+      let a : (w / LANE + (n * THREE_LANES) % 18446744073709551616) / 1 % LANE ≡ w / LANE / 1 % LANE =
       omega arith in
-      let b : (w / 65536 + (n * 281474976710656) % 18446744073709551616) / 65536 % 65536 ≡ w / 65536 / 65536 % 65536 =
+      let b : (w / LANE + (n * THREE_LANES) % 18446744073709551616) / LANE % LANE ≡ w / LANE / LANE % LANE =
       omega arith in
-      let d : (w / 65536 + (n * 281474976710656) % 18446744073709551616) / 4294967296 % 65536
-      ≡ w / 65536 / 4294967296 % 65536 = omega arith in
-      let e : (w / 65536 + (n * 281474976710656) % 18446744073709551616) / 281474976710656 % 65536 ≡ n / 1 % 65536 =
+      let d : (w / LANE + (n * THREE_LANES) % 18446744073709551616) / TWO_LANES % LANE
+      ≡ w / LANE / TWO_LANES % LANE = omega arith in
+      let e : (w / LANE + (n * THREE_LANES) % 18446744073709551616) / THREE_LANES % LANE ≡ n / 1 % LANE =
       omega arith in
       λ i. a i ∷ b i ∷ d i ∷ e i ∷ []
   lay_joined (suc (suc (suc (suc k)))) some few = absurd (omega arith)
@@ -112,27 +112,27 @@ pub lanes_split : (w k : ℕ) → k < 4 → lanes w (4 - k) ++ top_lanes w k ≡
 unfolding lane
 lanes_split w zero few = refl
 lanes_split w (suc zero) few =
-    let d : w / 281474976710656 / 1 % 65536 ≡ w / 281474976710656 % 65536 = omega arith in
-    λ i. w / 1 % 65536 ∷ w / 65536 % 65536 ∷ w / 4294967296 % 65536 ∷ d i ∷ []
+    let d : w / THREE_LANES / 1 % LANE ≡ w / THREE_LANES % LANE = omega arith in
+    λ i. w / 1 % LANE ∷ w / LANE % LANE ∷ w / TWO_LANES % LANE ∷ d i ∷ []
 lanes_split w (suc (suc zero)) few =
-    let c : w / 4294967296 / 1 % 65536 ≡ w / 4294967296 % 65536 = omega arith in
-    let d : w / 4294967296 / 65536 % 65536 ≡ w / 281474976710656 % 65536 = omega arith in
-    λ i. w / 1 % 65536 ∷ w / 65536 % 65536 ∷ c i ∷ d i ∷ []
+    let c : w / TWO_LANES / 1 % LANE ≡ w / TWO_LANES % LANE = omega arith in
+    let d : w / TWO_LANES / LANE % LANE ≡ w / THREE_LANES % LANE = omega arith in
+    λ i. w / 1 % LANE ∷ w / LANE % LANE ∷ c i ∷ d i ∷ []
 lanes_split w (suc (suc (suc zero))) few =
-    let b : w / 65536 / 1 % 65536 ≡ w / 65536 % 65536 = omega arith in
-    let c : w / 65536 / 65536 % 65536 ≡ w / 4294967296 % 65536 = omega arith in
-    let d : w / 65536 / 4294967296 % 65536 ≡ w / 281474976710656 % 65536 = omega arith in
-    λ i. w / 1 % 65536 ∷ b i ∷ c i ∷ d i ∷ []
+    let b : w / LANE / 1 % LANE ≡ w / LANE % LANE = omega arith in
+    let c : w / LANE / LANE % LANE ≡ w / TWO_LANES % LANE = omega arith in
+    let d : w / LANE / TWO_LANES % LANE ≡ w / THREE_LANES % LANE = omega arith in
+    λ i. w / 1 % LANE ∷ b i ∷ c i ∷ d i ∷ []
 lanes_split w (suc (suc (suc (suc k)))) few = absurd (omega arith)
 
 -- a lane from another one on
-pub lane_on : (w l j : ℕ) → lane (w / 65536 ^ l) j ≡ lane w (l + j)
+pub lane_on : (w l j : ℕ) → lane (w / LANE ^ l) j ≡ lane w (l + j)
 unfolding lane
-lane_on w l j = ap (λ (z : ℕ). z % 65536)
-    (div-div-eq-div-mul w (65536 ^ l) (65536 ^ j) ∙ ap (λ (z : ℕ). w / z) (sym (pow-add 65536 l j)))
+lane_on w l j = ap (λ (z : ℕ). z % LANE)
+    (div-div-eq-div-mul w (LANE ^ l) (LANE ^ j) ∙ ap (λ (z : ℕ). w / z) (sym (pow-add LANE l j)))
 
 -- a lane by the number that shifts it down
-pub lane_shift : (w l : ℕ) → l < 4 → w / 2 ^ (l * 16) % 65536 ≡ lane w l
+pub lane_shift : (w l : ℕ) → l < 4 → w / 2 ^ (l * 16) % LANE ≡ lane w l
 unfolding lane
 lane_shift w zero lt = refl
 lane_shift w (suc zero) lt = refl

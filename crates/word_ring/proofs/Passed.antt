@@ -11,7 +11,7 @@ use Rattle.word_ring.specs.declared.putter.Putter.TheInside.{Inside as PutterIns
 use Rattle.word_ring.specs.declared.taker.Taker.TheInside.{Inside as TakerInside}
 use Rattle.word_ring.specs.declared.table.View.{View}
 use Rattle.word_ring.specs.Ends.{PutterState, NothingWaits, Passes, with_loaded, with_all_taken}
-use Rattle.word_ring.specs.Lanes.{lanes, top_lanes, whole_words, HasLast}
+use Rattle.word_ring.specs.Lanes.{LANE, lanes, top_lanes, whole_words, HasLast}
 use Rattle.atomic_table.specs.Table.{Me, rest}
 use Rattle.word_ring.specs.Plays.{with_putter, with_put_past, with_taken_past, with_passed, held, putter_of, taker_of}
 use Rattle.word_ring.specs.PutterParts.{putter_state, sent_of, IsPutter, IsPutting}
@@ -47,7 +47,7 @@ pub lanes_last : (front : List ℕ) (word sent : ℕ)
 lanes_last front word sent is =
     let ys : List ℕ = top_lanes word (sent % 4) in
     let long : length (front ++ ys) ≡ length front + sent % 4 =
-    length-append front ys ∙ omega (arith, lanes_length (word / 65536 ^ (4 - sent % 4)) (sent % 4)) in
+    length-append front ys ∙ omega (arith, lanes_length (word / LANE ^ (4 - sent % 4)) (sent % 4)) in
     let whole : length (front ++ ys) / 4 * 4 ≡ length front = omega (arith, is, long) in
     ap (λ (n : ℕ). top_lanes word (n % 4)) (sym is)
     ∙ sym (ap (λ (n : ℕ). drop n (front ++ ys)) whole ∙ drop-append_seam front ys)

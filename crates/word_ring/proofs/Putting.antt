@@ -5,7 +5,7 @@ use mathlib.Core.List.{IsPrefix}
 use Rattle.word_ring.specs.declared.putter.Putter.TheInside.{Inside}
 use Rattle.word_ring.specs.declared.table.View.{View}
 use Rattle.word_ring.specs.Ends.{PutterState}
-use Rattle.word_ring.specs.Lanes.{lanes, top_lanes, whole_words}
+use Rattle.word_ring.specs.Lanes.{LANE, lanes, top_lanes, whole_words}
 use Rattle.word_ring.specs.Plays.{with_head, with_written, with_all_pushed, with_head_note}
 use Rattle.word_ring.specs.PutterParts.{putter_state, sent_of, IsPutter, IsPutting}
 use Rattle.word_ring.proofs.Beginnings.{begins_itself, begins_more, begins_through, begins_whole}
@@ -56,7 +56,7 @@ module _ (capacity sent word : ℕ) (v : View) (p : IsPutting capacity sent word
   }
 
   pub group : sent / 4 ≡ length v.written / 4
-  group = group_is v.written (word / 65536 ^ (4 - sent % 4)) sent p.count
+  group = group_is v.written (word / LANE ^ (4 - sent % 4)) sent p.count
 
   -- where as many were pushed as were put, all that was put is
   pub all_pushed : length v.pushed ≡ sent → v.pushed ≡ sent_of sent word v
@@ -67,7 +67,7 @@ module _ (capacity sent word : ℕ) (v : View) (p : IsPutting capacity sent word
   after_push =
       let same : sent_of sent word (with_all_pushed (with_written v (sent_of sent word v))) ≡ sent_of sent word v =
       ap (λ (xs : List ℕ). xs ++ top_lanes word (sent % 4))
-      (whole_again v.written (word / 65536 ^ (4 - sent % 4)) (sent % 4) (omega arith)) in
+      (whole_again v.written (word / LANE ^ (4 - sent % 4)) (sent % 4) (omega arith)) in
       record {
         puts = p.puts;
         alone = p.alone;
@@ -85,7 +85,7 @@ module _ (capacity sent word : ℕ) (v : View) (p : IsPutting capacity sent word
 
   pub pushed_same : sent_of sent word (with_all_pushed (with_written v (sent_of sent word v))) ≡ sent_of sent word v
   pushed_same = ap (λ (xs : List ℕ). xs ++ top_lanes word (sent % 4))
-      (whole_again v.written (word / 65536 ^ (4 - sent % 4)) (sent % 4) (omega arith))
+      (whole_again v.written (word / LANE ^ (4 - sent % 4)) (sent % 4) (omega arith))
 
   -- a whole word is put after whole words, and was stored
   module _ (x : ℕ) (full : sent % 4 ≡ 0) (room : sent + 4 ≤ v.head + capacity) where
@@ -99,12 +99,12 @@ module _ (capacity sent word : ℕ) (v : View) (p : IsPutting capacity sent word
     after_is =
         let is : (sent + 4) % 4 ≡ 0 = omega arith in
         ap (λ (k : ℕ). whole_words all ++ top_lanes word k) is
-        ∙ (append-nil (whole_words all) ∙ whole_full v.written (x / 65536 ^ (4 - 4)))
+        ∙ (append-nil (whole_words all) ∙ whole_full v.written (x / LANE ^ (4 - 4)))
 
     pub after_word : IsPutting capacity (sent + 4) word (with_written v all)
     after_word =
         let whole : length (whole_words v.written) ≡ length v.written / 4 * 4 = whole_length v.written in
-        let long : length all ≡ length v.written / 4 * 4 + 4 = long_is v.written (x / 65536 ^ (4 - 4)) 4 in
+        let long : length all ≡ length v.written / 4 * 4 + 4 = long_is v.written (x / LANE ^ (4 - 4)) 4 in
         let count = p.count in
         let before = ap length before_is in
         let more : IsPrefix (sent_of sent word v) all =
@@ -141,7 +141,7 @@ module _ (capacity sent word : ℕ) (v : View) (p : IsPutting capacity sent word
         (begins_more (sent_of sent word v) (lanes four (4 - sent % 4))))
 
     whole_is : whole_words filled ≡ filled
-    whole_is = whole_full v.written (full / 65536 ^ (4 - 4))
+    whole_is = whole_full v.written (full / LANE ^ (4 - 4))
 
     pub across_is : sent_of (sent + 4) four (with_written v filled) ≡ sent_of sent word v ++ lanes four 4
     across_is =

@@ -7,7 +7,7 @@ use native.Mathlib.Nat.{add-mul, add-mul-mod_self_right, div-add-mod', mod-eq_of
 use Rattle.std.proofs.lemmas.Bool.{cases_lt}
 use Rattle.std.proofs.Math.Seq.{get_or-append_right}
 use Rattle.word_ring.specs.Lanes.{lane, lanes, whole_words}
-use Rattle.word_ring.specs.Rule.{Stands, place}
+use Rattle.word_ring.specs.Rule.{StandsInLane, place}
 use Rattle.word_ring.proofs.Beginnings.{begins_at}
 use Rattle.word_ring.proofs.Packing.{lanes_length, lanes_at, whole_length}
 
@@ -75,16 +75,16 @@ apart n a b lt near e =
 -- a store to the head or the tail
 pub stands_index : (n : ℕ) (words : List ℕ) (head : ℕ) (written : List ℕ) (at x : ℕ)
     → at < 2
-    → Stands n words head written
-    → Stands n (set words at x) head written
+    → StandsInLane n words head written
+    → StandsInLane n (set words at x) head written
 stands_index n words head written at x lt stands i low high =
     ap (λ z. lane z (i % 4)) (get_or-set_other words at (place n (i / 4)) x 0 (λ e. omega arith)) ∙ stands i low high
 
 -- the head rises
 pub stands_above : (n : ℕ) (words : List ℕ) (head head' : ℕ) (written : List ℕ)
     → head ≤ head'
-    → Stands n words head written
-    → Stands n words head' written
+    → StandsInLane n words head written
+    → StandsInLane n words head' written
 stands_above n words head head' written le stands i low high = stands i (omega arith) high
 
 -- the last word is stored, with its first lanes
@@ -94,8 +94,8 @@ pub stands_lanes : (n : ℕ) (words : List ℕ) (head : ℕ) (written : List ℕ
     → k ≤ 4
     → IsPrefix written (whole_words written ++ lanes word k)
     → length (whole_words written ++ lanes word k) ≤ head + n
-    → Stands n words head written
-    → Stands n (set words at word) head (whole_words written ++ lanes word k)
+    → StandsInLane n words head written
+    → StandsInLane n (set words at word) head (whole_words written ++ lanes word k)
 stands_lanes n words head written at word k at_is inside few goes_on fits stands i low high =
     let front : length (whole_words written) ≡ length written / 4 * 4 = whole_length written in
     let long : length (whole_words written ++ lanes word k) ≡ length written / 4 * 4 + k =

@@ -11,7 +11,7 @@ use Rattle.std.proofs.lemmas.List.{drop_all, drop-take, take_all, take_at, take-
 use Rattle.word_ring.specs.declared.table.View.{View}
 use Rattle.word_ring.specs.declared.taker.Taker.TheInside.{Inside}
 use Rattle.word_ring.specs.Ends.{TakerState, with_taken}
-use Rattle.word_ring.specs.Lanes.{lane, lanes, top_lanes}
+use Rattle.word_ring.specs.Lanes.{LANE, lane, lanes, top_lanes}
 use Rattle.word_ring.specs.Plays.{with_tail, with_read, with_taken_to, with_note, with_putter, LoadsLanes}
 use Rattle.word_ring.specs.Rule.{Ring, place}
 use Rattle.word_ring.specs.TakerParts.{taker_state, IsTaker, IsTaking, HasLanes, peeked_of}
@@ -359,9 +359,9 @@ module _ (old new : Inside) (inner : IsTaker old) where
       → (j : ℕ)
       → old.next % 4 + j < 4
       → old.next + j < old.seat.me.0.tail
-      → HasRead old new (suc j) (lanes (new.word / 65536 ^ (old.next % 4)) (suc j))
+      → HasRead old new (suc j) (lanes (new.word / LANE ^ (old.next % 4)) (suc j))
   reads_on one zero inside more =
-      let here : lane (new.word / 65536 ^ (old.next % 4)) 0 ≡ lane new.word (old.next % 4) =
+      let here : lane (new.word / LANE ^ (old.next % 4)) 0 ≡ lane new.word (old.next % 4) =
       lane_on new.word (old.next % 4) 0 ∙ ap (lane new.word) (omega arith) in
       record {
         ring = one.ring;
@@ -374,7 +374,7 @@ module _ (old new : Inside) (inner : IsTaker old) where
   reads_on one (suc j) inside more =
       let so_far = reads_on one j (omega arith) (omega arith) in
       let before : List ℕ = peeked_of old.taken old.next old.seat.me.0 in
-      let word : ℕ = new.word / 65536 ^ (old.next % 4) in
+      let word : ℕ = new.word / LANE ^ (old.next % 4) in
       let order = inner.taking.order in
       let tail : new.seat.me.0.tail ≡ old.seat.me.0.tail = ap (λ z. z.tail) one.view in
       let step : old.next + suc j + 1 ≡ old.next + suc (suc j) = omega arith in
@@ -420,8 +420,8 @@ module _ (old new : Inside) (inner : IsTaker old) where
         → HasRead old new k (lanes new.word k)
     reads_first zero whole some few more = absurd (omega arith)
     reads_first (suc j) whole some few more =
-        let all : new.word / 65536 ^ (old.next % 4) ≡ new.word =
-        ap (λ (k : ℕ). new.word / 65536 ^ k) whole ∙ omega arith in
+        let all : new.word / LANE ^ (old.next % 4) ≡ new.word =
+        ap (λ (k : ℕ). new.word / LANE ^ k) whole ∙ omega arith in
         subst (λ (w : ℕ). HasRead old new (suc j) (lanes w (suc j))) all
         (reads_on (reads_loaded (inr whole) (omega arith)) j (omega arith) (omega arith))
 
@@ -432,8 +432,8 @@ module _ (old new : Inside) (inner : IsTaker old) where
   reads_rest one more =
       let count : suc (3 - old.next % 4) ≡ 4 - old.next % 4 = omega arith in
       let from : old.next % 4 ≡ 4 - (4 - old.next % 4) = omega arith in
-      subst (λ (l : ℕ). HasRead old new (4 - old.next % 4) (lanes (new.word / 65536 ^ l) (4 - old.next % 4))) from
-      (subst (λ (k : ℕ). HasRead old new k (lanes (new.word / 65536 ^ (old.next % 4)) k)) count
+      subst (λ (l : ℕ). HasRead old new (4 - old.next % 4) (lanes (new.word / LANE ^ l) (4 - old.next % 4))) from
+      (subst (λ (k : ℕ). HasRead old new k (lanes (new.word / LANE ^ (old.next % 4)) k)) count
       (reads_on one (3 - old.next % 4) (omega arith) (omega arith)))
 
 -- where there are some, they are taken and their head is stored

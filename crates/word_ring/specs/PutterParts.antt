@@ -2,6 +2,7 @@
 use Rattle.std.specs.Prelude.{◌≡◌, ℕ, ◌+◌, ◌/◌, ◌%◌, ◌^◌, ◌<◌, ◌≤◌, true, false, List, [], ◌++◌, length, All}
 use Rattle.std.specs.List.Sorted.{IsNonDecreasing}
 use Rattle.std.specs.Arc.{arc_value}
+use Rattle.tty_base.specs.Sizes.{MOST_FLIP}
 use mathlib.Core.List.{IsPrefix}
 use Rattle.word_ring.specs.declared.putter.Note.TheInside.{Inside as NoteInside}
 use Rattle.word_ring.specs.declared.putter.Putter.TheInside.{Inside}
@@ -43,7 +44,7 @@ pub record IsPutter (p : Inside) : Type 0 where
   pub table : p.seat.table_id ≡ (arc_value p.board).shared.table_id
   pub key : (arc_value p.board).shared.key ≡ p.capacity
   pub words : p.seat.table_id.words ≡ p.capacity / 4 + 4
-  pub small : p.capacity ≤ 65536
+  pub small : p.capacity ≤ MOST_FLIP
   pub at : p.at ≡ place p.capacity (p.sent / 4)
   pub bare : p.seat.me.1 ≡ []
   pub shown : p.shown ≡ length p.seat.me.0.pushed

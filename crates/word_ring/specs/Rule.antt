@@ -58,8 +58,8 @@ abbrev pub place : ℕ → ℕ → ℕ
 place n group = 2 + group % (n / 4 + 2)
 
 -- each written number that is not taken stands in its lane
-abbrev pub Stands : ℕ → List ℕ → ℕ → List ℕ → Type 0
-Stands n words head written =
+abbrev pub StandsInLane : ℕ → List ℕ → ℕ → List ℕ → Type 0
+StandsInLane n words head written =
     (i : ℕ) → head ≤ i → i < length written → lane (slice_index words (place n (i / 4))) (i % 4) ≡ slice_index written i
 
 -- what a table's slot has
@@ -74,7 +74,7 @@ pub record Ring (n : ℕ) (s : State Slot View) : Type 0 where
   pub taken : IsPrefix story.taken story.pushed
   pub pushed : IsPrefix story.pushed story.written
   pub fits : length story.written ≤ length story.taken + n
-  pub stands : story.passing ≡ false → Stands n s.words (length story.taken) story.written
+  pub stands : story.passing ≡ false → StandsInLane n s.words (length story.taken) story.written
   -- what goes past the words no other seat can look for, since one seat has both ends
   pub one : story.passing ≡ true → story.putter ≡ story.taker
   pub released : All (λ h. h ≤ length story.taken) story.released

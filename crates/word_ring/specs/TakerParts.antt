@@ -2,6 +2,7 @@
 use Rattle.std.specs.Prelude.{◌≡◌, ℕ, ◌+◌, ◌-◌, ◌*◌, ◌/◌, ◌%◌, ◌^◌, ◌<◌, ◌≤◌, true}
 use Rattle.std.specs.Prelude.{false, List, [], ◌∷◌, length, take, drop, min, slice_index}
 use Rattle.std.specs.Arc.{arc_value}
+use Rattle.tty_base.specs.Sizes.{MOST_FLIP}
 use mathlib.Core.List.{IsPrefix}
 use Rattle.word_ring.specs.declared.table.View.{View}
 use Rattle.word_ring.specs.declared.taker.HeadNote.TheInside.{Inside as HeadNoteInside}
@@ -58,7 +59,7 @@ pub record IsTaker (t : Inside) : Type 0 where
   pub table : t.seat.table_id ≡ (arc_value t.board).shared.table_id
   pub key : (arc_value t.board).shared.key ≡ t.capacity
   pub words : t.seat.table_id.words ≡ t.capacity / 4 + 4
-  pub small : t.capacity ≤ 65536
+  pub small : t.capacity ≤ MOST_FLIP
   pub slot : Slot
   pub holds : t.seat.me.1 ≡ (0, slot) ∷ []
   pub tail : t.tail ≡ t.seat.me.0.tail

@@ -1,6 +1,7 @@
 //! Four numbers at a time: each call leaves what four times `put_known` or `peek_next` would, with one store or one
 //! load of a word.
-ghost use Rattle.std.specs.Prelude.{◌≡◌, ◌+◌, ◌%◌, ◌^◌, ◌<◌, ◌≤◌, ◌++◌, length};
+ghost use Rattle.std.specs.Prelude.{◌≡◌, ◌+◌, ◌%◌, ◌<◌, ◌≤◌, ◌++◌, length};
+ghost use Rattle.tty_base.specs.Sizes.{MOST_SENT};
 ghost use Rattle.word_ring.specs.Lanes.{lanes};
 
 use crate::lanes::{joined, word_of};
@@ -14,7 +15,7 @@ impl Putter {
     /// next push.
     #[inline(always)]
     pub fn put_four(&mut self, xs: [u16; 4])
-        requires small { length self.old.sent + 4 ≤ 2 ^ 63 }
+        requires small { length self.old.sent + 4 ≤ MOST_SENT }
         requires room { length self.old.sent + 4 ≤ self.old.floor + self.old.capacity }
         ensures { self.new ≡ record self.old { sent = self.old.sent ++ xs } }
     {
@@ -30,7 +31,7 @@ impl Putter {
     #[inline(always)]
     fn put_word(&mut self, word: u64)
         requires full { length self.old.sent % 4 ≡ 0 }
-        requires small { length self.old.sent + 4 ≤ 2 ^ 63 }
+        requires small { length self.old.sent + 4 ≤ MOST_SENT }
         requires room { length self.old.sent + 4 ≤ self.old.floor + self.old.capacity }
         ensures { self.new ≡ record self.old { sent = self.old.sent ++ lanes word 4 } }
     {
@@ -43,7 +44,7 @@ impl Putter {
     // Puts four numbers of which the first fill the last word, and the others begin the next one.
     fn put_across(&mut self, four: u64)
         requires inside { 0 < length self.old.sent % 4 }
-        requires small { length self.old.sent + 4 ≤ 2 ^ 63 }
+        requires small { length self.old.sent + 4 ≤ MOST_SENT }
         requires room { length self.old.sent + 4 ≤ self.old.floor + self.old.capacity }
         ensures { self.new ≡ record self.old { sent = self.old.sent ++ lanes four 4 } }
     {

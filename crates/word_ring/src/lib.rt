@@ -17,6 +17,7 @@ mod steps;
 mod table;
 mod taker;
 
+pub use lanes::{LANE, THREE_LANES, TWO_LANES};
 pub use new::{names_tell_rings, ring};
 pub use putter::{Note, Putter};
 pub use taker::{HeadNote, Taker};

@@ -1,10 +1,11 @@
 //! A new ring.
 ghost use Rattle.std.specs.Prelude.{◌≡◌, ◌<◌, ◌≤◌, false, [], IfOk};
+ghost use Rattle.tty_base.specs.Sizes.{MOST_FLIP};
 ghost use Rattle.word_ring.specs.Names.{NamesTellRings};
 
 use crate::past::Past;
 use crate::putter::Putter;
-use crate::table::{Apart, Board, HEAD, TakeSlot};
+use crate::table::{Apart, HEAD, RingTable, TakeSlot};
 use crate::taker::Taker;
 use std::alloc::Global;
 use std::sync::Arc;
@@ -12,7 +13,7 @@ use tty_base::NoMemory;
 
 /// The two ends of a new ring, which has room for `n` numbers.
 pub fn ring(alloc: Global, n: usize) -> Result<(Putter, Taker), NoMemory>
-    requires { (0 < n) × (n ≤ 65536) }
+    requires { (0 < n) × (n ≤ MOST_FLIP) }
     ensures putter { IfOk result
         (λ e. e.0 ≡ record { ring = e.1.ring; capacity = n; sent = []; pushed = []; heads = []; floor = 0 }) }
     ensures taker { IfOk result (λ e.
@@ -33,7 +34,7 @@ pub fn ring(alloc: Global, n: usize) -> Result<(Putter, Taker), NoMemory>
     let words = vec![in alloc; 0u64; n / 4 + 4]?;
     let mut slots = Vec::new(alloc);
     slots.push(Past::none())?;
-    let Ok((table, mut seat)) = Board::new(alloc, words.as_slice(), slots, &capacity) else {
+    let Ok((table, mut seat)) = RingTable::new(alloc, words.as_slice(), slots, &capacity) else {
         return Err(NoMemory);
     };
     table.shared.load::<TakeSlot>(&mut seat, HEAD);

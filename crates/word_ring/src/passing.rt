@@ -1,6 +1,7 @@
 //! What goes from the one end straight to the other, where both are at hand and nothing waits: the head
 //! and the tail are stored, and no number is stored in a word.
-ghost use Rattle.std.specs.Prelude.{◌≡◌, ℕ, ◌+◌, ◌≤◌, ◌^◌, ◌↔◌, List, ◌++◌, length, IsTrue};
+ghost use Rattle.std.specs.Prelude.{◌≡◌, ℕ, ◌+◌, ◌≤◌, ◌↔◌, List, ◌++◌, length, IsTrue};
+ghost use Rattle.tty_base.specs.Sizes.{MOST_SENT};
 ghost use Rattle.word_ring.specs.Ends.{NothingWaits, Passes};
 ghost use Rattle.word_ring.specs.Lanes.{HasLast, lanes};
 
@@ -30,7 +31,7 @@ impl Taker {
         requires ring { putter.old.ring ≡ self.old.ring }
         requires clear { NothingWaits putter.old self.old }
         requires room { length bytes.now ≤ self.old.capacity }
-        requires small { length putter.old.sent + length bytes.now ≤ 2 ^ 63 }
+        requires small { length putter.old.sent + length bytes.now ≤ MOST_SENT }
         ensures { Passes putter.old putter.new self.old self.new bytes.now }
     {
         let sent = putter.sent + bytes.len() as u64;
@@ -57,7 +58,7 @@ impl Taker {
 /// of which it has those in another.
 #[inline(always)]
 fn word_after(word: u64, sent: u64, bytes: &[u8]) -> u64
-    requires small { sent + length bytes.now ≤ 2 ^ 63 }
+    requires small { sent + length bytes.now ≤ MOST_SENT }
     ensures { (front : List ℕ) → length front ≡ sent → HasLast word front → HasLast result (front ++ bytes.now) }
 {
     match bytes.last_chunk::<4>() {
@@ -78,7 +79,7 @@ fn word_of_bytes(bytes: [u8; 4]) -> u64
 /// That word, where they are few.
 #[inline(never)]
 fn word_after_few(word: u64, sent: u64, bytes: &[u8]) -> u64
-    requires small { sent + length bytes.now ≤ 2 ^ 63 }
+    requires small { sent + length bytes.now ≤ MOST_SENT }
     ensures { (front : List ℕ) → length front ≡ sent → HasLast word front → HasLast result (front ++ bytes.now) }
 {
     let count = (sent + bytes.len() as u64) % 4;

@@ -1,11 +1,12 @@
 //! The end that puts numbers in, and its notes.
-ghost use Rattle.std.specs.Prelude.{◌≡◌, ◌+◌, ◌%◌, ◌<◌, ◌≤◌, ◌^◌, [], ◌∷◌, ◌++◌, length, OnOk, OnErr, MatchResult};
+ghost use Rattle.std.specs.Prelude.{◌≡◌, ◌+◌, ◌%◌, ◌<◌, ◌≤◌, [], ◌∷◌, ◌++◌, length, OnOk, OnErr, MatchResult};
 ghost use Rattle.std.specs.List.Sorted.{IsNonDecreasing};
+ghost use Rattle.tty_base.specs.Sizes.{MOST_SENT};
 ghost use Rattle.word_ring.specs.Ends.{with_loaded};
 
 use crate::lanes::with_next;
 use crate::steps::{place_after, store_lanes};
-use crate::table::{Board, HEAD, HeadNoted, LoadHead, Noted, Place, StoreTail, TAIL};
+use crate::table::{HEAD, HeadNoted, LoadHead, Noted, RingSeat, RingTable, StoreTail, TAIL};
 use crate::taker::HeadNote;
 use std::alloc::Global;
 use std::marker::Model;
@@ -15,8 +16,8 @@ use tty_base::{Full, Moves};
 /// The end that puts numbers in.
 #[derive(Drop)]
 pub struct Putter {
-    pub(crate) board: Arc<Board>,
-    pub(crate) seat: Place,
+    pub(crate) board: Arc<RingTable>,
+    pub(crate) seat: RingSeat,
     pub(crate) capacity: u64,
     pub(crate) sent: u64,
     /// The last numbers put, `sent % 4` of them, in its last lanes.
@@ -45,7 +46,7 @@ impl Model for Putter {
 /// What the putter had pushed, and the heads that it had loaded, when it gave the note.
 #[derive(Drop)]
 pub struct Note {
-    pub(crate) seat: Place,
+    pub(crate) seat: RingSeat,
     /// How many numbers were pushed.
     pub(crate) shown: u64,
 }
@@ -98,7 +99,7 @@ impl Putter {
     /// that this call loaded, and comes where as many as the capacity are left. The taker finds the
     /// number after the next push.
     pub fn put(&mut self, x: u16) -> Result<(), Full>
-        requires { length self.old.sent < 2 ^ 63 }
+        requires { length self.old.sent < MOST_SENT }
         ensures ok { OnOk result
             (self.new ≡ record (with_loaded self.old self.new.floor) { sent = self.old.sent ++ x ∷ [] }) }
         ensures full { OnErr result (self.new ≡ with_loaded self.old self.new.floor) }
@@ -122,7 +123,7 @@ impl Putter {
     /// after the next push.
     #[inline(always)]
     pub fn put_known(&mut self, x: u16)
-        requires small { length self.old.sent < 2 ^ 63 }
+        requires small { length self.old.sent < MOST_SENT }
         requires room { length self.old.sent < self.old.floor + self.old.capacity }
         ensures { self.new ≡ record self.old { sent = self.old.sent ++ x ∷ [] } }
     {

@@ -1,20 +1,22 @@
 //! Where words stand, and stores of a word.
-ghost use Rattle.std.specs.Prelude.{◌≡◌, ℕ, ◌+◌, ◌-◌, ◌/◌, ◌%◌, ◌<◌, ◌≤◌, true, ◌++◌, length, IfSome, IsNone};
+ghost use Rattle.std.specs.Prelude.{◌≡◌, ◌+◌, ◌-◌, ◌/◌, ◌%◌, ◌<◌, ◌≤◌, true, ◌++◌, length, IfSome, IsNone};
 ghost use Rattle.std.proofs.Common.{◌⊎◌};
+ghost use Rattle.tty_base.specs.Sizes.{MOST_FLIP};
 ghost use mathlib.Core.List.{IsPrefix};
 ghost use Rattle.word_ring.specs.Lanes.{top_lanes, whole_words};
 ghost use Rattle.word_ring.specs.Plays.{with_written};
 ghost use Rattle.word_ring.specs.Rule.{place};
 
-use crate::table::{Place, Steps, StoreLanes};
+use crate::lanes::{LANE, THREE_LANES, TWO_LANES};
+use crate::table::{RingSeat, Steps, StoreLanes};
 
 /// The place of the word after the one at `at`, where that ends before number `next`.
 #[inline(always)]
 pub(crate) fn place_of_next(capacity: u64, next: u64, at: usize) -> usize
-    requires { (capacity ≤ 65536) × (0 < next) × (next % 4 ≡ 0) × (at ≡ place capacity ((next - 1) / 4)) }
+    requires { (capacity ≤ MOST_FLIP) × (0 < next) × (next % 4 ≡ 0) × (at ≡ place capacity ((next - 1) / 4)) }
     ensures { result ≡ place capacity (next / 4) }
 {
-    let _ = next;
+    let _ = next; // for the contract alone
     if at < (capacity / 4 + 3) as usize {
         at + 1
     } else {
@@ -25,7 +27,7 @@ pub(crate) fn place_of_next(capacity: u64, next: u64, at: usize) -> usize
 /// The place of the word that has number `next`, where the one at `at` has number `sent`, at most the capacity before.
 #[inline(always)]
 pub(crate) fn place_further(capacity: u64, sent: u64, next: u64, at: usize) -> usize
-    requires small { capacity ≤ 65536 }
+    requires small { capacity ≤ MOST_FLIP }
     requires order { (sent ≤ next) × (next ≤ sent + capacity) }
     requires at { at ≡ place capacity (sent / 4) }
     ensures { result ≡ place capacity (next / 4) }
@@ -41,7 +43,7 @@ pub(crate) fn place_further(capacity: u64, sent: u64, next: u64, at: usize) -> u
 
 /// The place of the word that has number `next`, where the number before it is in the word at `at`.
 pub(crate) fn place_after(capacity: u64, next: u64, at: usize) -> usize
-    requires { (capacity ≤ 65536) × (0 < next) × (at ≡ place capacity ((next - 1) / 4)) }
+    requires { (capacity ≤ MOST_FLIP) × (0 < next) × (at ≡ place capacity ((next - 1) / 4)) }
     ensures { result ≡ place capacity (next / 4) }
 {
     if next % 4 != 0 {
@@ -53,7 +55,7 @@ pub(crate) fn place_after(capacity: u64, next: u64, at: usize) -> usize
 /// The place of the word that has number `head`, not after `next`, where the number before `next` is in
 /// the word at `at`.
 pub(crate) fn place_of_head(capacity: u64, head: u64, next: u64, at: usize) -> usize
-    requires { (capacity ≤ 65536) × (0 < next) × (at ≡ place capacity ((next - 1) / 4)) }
+    requires { (capacity ≤ MOST_FLIP) × (0 < next) × (at ≡ place capacity ((next - 1) / 4)) }
     ensures { result ≡ place capacity (head / 4) }
 {
     if head == next {
@@ -66,7 +68,7 @@ pub(crate) fn place_of_head(capacity: u64, head: u64, next: u64, at: usize) -> u
 /// The place of the word that begins with number `next`.
 #[inline(always)]
 pub(crate) fn place_of_word(capacity: u64, taken: u64, next: u64, start: usize, at: usize) -> usize
-    requires small { capacity ≤ 65536 }
+    requires small { capacity ≤ MOST_FLIP }
     requires order { taken ≤ next }
     requires start { start ≡ place capacity (taken / 4) }
     requires at { taken < next → at ≡ place capacity ((next - 1) / 4) }
@@ -88,7 +90,7 @@ pub(crate) fn place_to_load(
     start: usize,
     at: usize,
 ) -> Option<usize>
-    requires small { capacity ≤ 65536 }
+    requires small { capacity ≤ MOST_FLIP }
     requires order { taken ≤ next }
     requires start { start ≡ place capacity (taken / 4) }
     requires at { taken < next → at ≡ place capacity ((next - 1) / 4) }
@@ -107,7 +109,7 @@ pub(crate) fn place_to_load(
 /// Stores the word in whose last lanes are the last numbers put, so many. Where it has none there is
 /// nothing to store.
 #[inline(always)]
-pub(crate) fn store_lanes(steps: &Steps, seat: &mut Place, at: usize, word: u64, count: u64)
+pub(crate) fn store_lanes(steps: &Steps, seat: &mut RingSeat, at: usize, word: u64, count: u64)
     requires seat { (seat.old.table_id ≡ steps.now.table_id) × (seat.old.me.0.puts ≡ true) }
     requires words { (1 < at) × (at < steps.now.table_id.words) }
     requires at { at ≡ place seat.old.me.0.puts_within (length seat.old.me.0.written / 4) }
@@ -130,7 +132,7 @@ pub(crate) fn store_lanes(steps: &Steps, seat: &mut Place, at: usize, word: u64,
 
 /// Stores a word that is not full: one to three lanes of it.
 #[inline(never)]
-fn store_part(steps: &Steps, seat: &mut Place, at: usize, word: u64, count: u64)
+fn store_part(steps: &Steps, seat: &mut RingSeat, at: usize, word: u64, count: u64)
     requires seat { (seat.old.table_id ≡ steps.now.table_id) × (seat.old.me.0.puts ≡ true) }
     requires words { (1 < at) × (at < steps.now.table_id.words) }
     requires at { at ≡ place seat.old.me.0.puts_within (length seat.old.me.0.written / 4) }
@@ -145,8 +147,8 @@ fn store_part(steps: &Steps, seat: &mut Place, at: usize, word: u64, count: u64)
         ≡ with_written seat.old.me.0 (whole_words seat.old.me.0.written ++ top_lanes word count) }
 {
     match count {
-        1 => steps.store::<StoreLanes<1>>(seat, at, word / 281474976710656),
-        2 => steps.store::<StoreLanes<2>>(seat, at, word / 4294967296),
-        _ => steps.store::<StoreLanes<3>>(seat, at, word / 65536),
+        1 => steps.store::<StoreLanes<1>>(seat, at, word / THREE_LANES),
+        2 => steps.store::<StoreLanes<2>>(seat, at, word / TWO_LANES),
+        _ => steps.store::<StoreLanes<3>>(seat, at, word / LANE),
     }
 }

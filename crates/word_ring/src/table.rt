@@ -54,9 +54,9 @@ pub struct View {
 }
 
 /// The rule of a ring. Its key is the capacity.
-pub struct Fifo;
+pub struct RingRule;
 
-impl TableRule<Slot, View, u64> for Fifo {
+impl TableRule<Slot, View, u64> for RingRule {
     ghost use Rattle.word_ring.specs.Rule.{Ring};
     ghost use Rattle.word_ring.specs.Plays.{both_ends};
 
@@ -67,11 +67,11 @@ impl TableRule<Slot, View, u64> for Fifo {
 
 pub(crate) type Slot = Past;
 
-pub(crate) type Board = Table<Slot, View, u64, Fifo, Global>;
+pub(crate) type RingTable = Table<Slot, View, u64, RingRule, Global>;
 
-pub(crate) type Steps = Shared<Slot, View, u64, Fifo>;
+pub(crate) type Steps = Shared<Slot, View, u64, RingRule>;
 
-pub(crate) type Place = Seat<Slot, View>;
+pub(crate) type RingSeat = Seat<Slot, View>;
 
 pub(crate) struct LoadHead;
 

@@ -9,7 +9,8 @@ use crate::lanes::lane_of;
 use crate::putter::{Note, Putter};
 use crate::steps::{place_of_head, place_to_load};
 use crate::table::{
-    Board, Compare, Ended, HEAD, HeadNoted, LoadLanes, LoadTail, Noted, Place, StoreHead, TAIL,
+    Compare, Ended, HEAD, HeadNoted, LoadLanes, LoadTail, Noted, RingSeat, RingTable, StoreHead,
+    TAIL,
 };
 use arrayvec::ArrayVec;
 use std::alloc::Global;
@@ -20,8 +21,8 @@ use tty_base::Moves;
 /// The end that takes numbers out.
 #[derive(Drop)]
 pub struct Taker {
-    pub(crate) board: Arc<Board>,
-    pub(crate) seat: Place,
+    pub(crate) board: Arc<RingTable>,
+    pub(crate) seat: RingSeat,
     pub(crate) capacity: u64,
     pub(crate) taken: u64,
     /// How many numbers were taken or are peeked.
@@ -54,7 +55,7 @@ impl Model for Taker {
 /// How many numbers the taker had taken when it gave the note.
 #[derive(Drop)]
 pub struct HeadNote {
-    pub(crate) seat: Place,
+    pub(crate) seat: RingSeat,
     pub(crate) taken: u64,
 }
 

@@ -1,10 +1,10 @@
 use Rattle.std.proofs.Common.{◌≢◌, ◌≤◌, ◌++◌, subst, ap, ◌∙◌, arith}
 use Rattle.std.specs.List.{AllByRecursion}
-use Rattle.char_lanes.specs.Runs.{IsIn}
+use Rattle.char_lanes.specs.Runs.{IsInBounds}
 use Rattle.char_lanes.proofs.Lanes.{all_in, numbers_are}
 use Rattle.char_lanes.proofs.push_eight.Goals as goal
 
-abbrev are_in : (c : goal.In-Ok) → AllByRecursion (IsIn c.args.first c.args.last c.args.without.now) c.args.eight
+abbrev are_in : (c : goal.In-Ok) → AllByRecursion (IsInBounds c.args.first c.args.last c.args.without.now) c.args.eight
 are_in c =
     let is = c.numbers_of-numbers.ensures in
     all_in c.args.first c.args.last c.args.without.now c.args.eight (omega (arith, c.ranges.last.fits))

@@ -1,6 +1,6 @@
 use Rattle.std.proofs.Common.{ap, subst, ◌++◌, ◌∙◌, arith}
 use Rattle.std.specs.List.{AllByRecursion}
-use Rattle.char_lanes.specs.Runs.{IsIn, bytes_in}
+use Rattle.char_lanes.specs.Runs.{IsInBounds, bytes_in}
 use Rattle.char_lanes.proofs.Lanes.{added_both, run_both}
 use Rattle.char_lanes.proofs.push_eights.Goals as goal
 
@@ -9,7 +9,7 @@ loop-count-preserved c =
     let cs = c.args.chars.now in
     let more = c.push_eight-taken.ensures in
     let taken = c.if-not-taken.false in
-    let Is = IsIn c.args.first c.args.last c.args.without.now in
+    let Is = IsInBounds c.args.first c.args.last c.args.without.now in
     let before = c.loop-count.invariant in
     record {
       within = omega (arith, c.loop-count-test.true);

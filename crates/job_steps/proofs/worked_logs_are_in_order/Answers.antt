@@ -6,7 +6,67 @@ pub returns-clause-foreground : goal.returns-clause-foreground
 unfolding is_cut window script is_masked trigger_of idle_of window_output
 returns-clause-foreground c = record {
   entries = record {
-    turns = (record { by_turn = refl; piece = tt }, (record { by_turn = refl; piece = tt }, (record { by_turn = refl; piece = tt }, (record { by_turn = refl; piece = tt }, (record { by_turn = refl; piece = tt }, (record { by_turn = refl; piece = tt }, (record { by_turn = refl; piece = tt }, (record { by_turn = refl; piece = tt }, (record { by_turn = refl; piece = tt }, (record { by_turn = refl; piece = tt }, (record { by_turn = refl; piece = tt }, (record { by_turn = refl; piece = tt }, (record { by_turn = refl; piece = tt }, (record { by_turn = refl; piece = (refl, refl) }, (record { by_turn = refl; piece = tt }, (record { by_turn = refl; piece = tt }, (record { by_turn = refl; piece = tt }, (record { by_turn = refl; piece = tt }, (record { by_turn = refl; piece = tt }, (record { by_turn = refl; piece = tt }, tt))))))))))))))))))));
+    turns = (
+      record { by_turn = refl; piece = tt },
+      (
+        record { by_turn = refl; piece = tt },
+        (
+          record { by_turn = refl; piece = tt },
+          (
+            record { by_turn = refl; piece = tt },
+            (
+              record { by_turn = refl; piece = tt },
+              (
+                record { by_turn = refl; piece = tt },
+                (
+                  record { by_turn = refl; piece = tt },
+                  (
+                    record { by_turn = refl; piece = tt },
+                    (
+                      record { by_turn = refl; piece = tt },
+                      (
+                        record { by_turn = refl; piece = tt },
+                        (
+                          record { by_turn = refl; piece = tt },
+                          (
+                            record { by_turn = refl; piece = tt },
+                            (
+                              record { by_turn = refl; piece = tt },
+                              (
+                                record { by_turn = refl; piece = (refl, refl) },
+                                (
+                                  record { by_turn = refl; piece = tt },
+                                  (
+                                    record { by_turn = refl; piece = tt },
+                                    (
+                                      record { by_turn = refl; piece = tt },
+                                      (
+                                        record { by_turn = refl; piece = tt },
+                                        (
+                                          record { by_turn = refl; piece = tt },
+                                          (
+                                            record { by_turn = refl; piece = tt },
+                                            tt,
+                                          ),
+                                        ),
+                                      ),
+                                    ),
+                                  ),
+                                ),
+                              ),
+                            ),
+                          ),
+                        ),
+                      ),
+                    ),
+                  ),
+                ),
+              ),
+            ),
+          ),
+        ),
+      ),
+    );
     seen = tt;
   };
   events =
@@ -17,10 +77,67 @@ pub returns-clause-shell : goal.returns-clause-shell
 unfolding is_cut window script
 returns-clause-shell c = record {
   entries = record {
-    turns = (record { by_turn = refl; piece = tt }, (record { by_turn = refl; piece = tt }, (record { by_turn = refl; piece = tt }, (record { by_turn = refl; piece = tt }, (record { by_turn = refl; piece = tt }, (record { by_turn = refl; piece = tt }, (record { by_turn = refl; piece = tt }, (record { by_turn = refl; piece = tt }, (record { by_turn = refl; piece = tt }, (record { by_turn = refl; piece = tt }, (record { by_turn = refl; piece = tt }, (record { by_turn = refl; piece = tt }, (record { by_turn = refl; piece = tt }, (record { by_turn = refl; piece = tt }, (record { by_turn = refl; piece = tt }, (record { by_turn = refl; piece = tt }, tt))))))))))))))));
+    turns = (
+      record { by_turn = refl; piece = tt },
+      (
+        record { by_turn = refl; piece = tt },
+        (
+          record { by_turn = refl; piece = tt },
+          (
+            record { by_turn = refl; piece = tt },
+            (
+              record { by_turn = refl; piece = tt },
+              (
+                record { by_turn = refl; piece = tt },
+                (
+                  record { by_turn = refl; piece = tt },
+                  (
+                    record { by_turn = refl; piece = tt },
+                    (
+                      record { by_turn = refl; piece = tt },
+                      (
+                        record { by_turn = refl; piece = tt },
+                        (
+                          record { by_turn = refl; piece = tt },
+                          (
+                            record { by_turn = refl; piece = tt },
+                            (
+                              record { by_turn = refl; piece = tt },
+                              (
+                                record { by_turn = refl; piece = tt },
+                                (
+                                  record { by_turn = refl; piece = tt },
+                                  (record { by_turn = refl; piece = tt }, tt),
+                                ),
+                              ),
+                            ),
+                          ),
+                        ),
+                      ),
+                    ),
+                  ),
+                ),
+              ),
+            ),
+          ),
+        ),
+      ),
+    );
     seen = tt;
   };
-  events = (lit≤ tt, ((lit≤ tt, refl), ((lit≤ tt, refl), (lit≤ tt, ((lit≤ tt, refl), ((lit≤ tt, refl), ((lit≤ tt, refl), (tt, (tt, tt)))))))));
+  events = (
+    lit≤ tt,
+    (
+      (lit≤ tt, refl),
+      (
+        (lit≤ tt, refl),
+        (
+          lit≤ tt,
+          ((lit≤ tt, refl), ((lit≤ tt, refl), ((lit≤ tt, refl), (tt, (tt, tt))))),
+        ),
+      ),
+    ),
+  );
 }
 
 -- it is the line's turn then

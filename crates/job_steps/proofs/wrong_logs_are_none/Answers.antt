@@ -1,6 +1,6 @@
 use Rattle.std.proofs.Common.{◌≡◌, ℕ, ◌∙◌, sym, ap, arith, subst, take, Option, None, Some}
 use Rattle.tty_calls.specs.Plain.{PlainEntry}
-use Rattle.job_steps.specs.Steps.{Port, first_state, first_place, next_call, GoesOn}
+use Rattle.job_steps.specs.Steps.{Port, first_state, first_place, next_call, WentToPort}
 use Rattle.job_steps.specs.Rows.{foreground_given, read_passed, read_passed_journal, port_of, state_after}
 use Rattle.job_control.specs.declared.answers.Target.{Target}
 use Rattle.job_control.specs.declared.answers.Target.TheVariants as towards
@@ -27,7 +27,7 @@ returns-clause-read_passed c = λ run.
     let state = state_after port (first_state port) (take 3 read_passed) in
     let passed = run.leads.3.3.3.2 in
     let first : 0 ≡ passed.entry.entry.step = ap step_in passed.entry.stands in
-    let P : ℕ → Type 0 = λ step. GoesOn port state (first_place port.journal 1 step) 1 (next_call port state 1) in
+    let P : ℕ → Type 0 = λ step. WentToPort port state (first_place port.journal 1 step) 1 (next_call port state 1) in
     let goes_on = subst P (sym first) passed.goes_on in
     cc
 

@@ -8,7 +8,7 @@ loop-h-init c k lt = absurd (omega (arith, lt))
 
 pub returns-then-is_live : goal.returns-then-is_live
 returns-then-is_live c =
-    sym (first_live c.args.port.now c.loop-h.h c.journal-journal.ensures.port c.loop-h-test.true
+    sym (first_live c.args.port.now c.loop-h.h c.known.ensures.port c.loop-h-test.true
     (ap is_live (sym c.handle.ensures) ∙ (sym c.is_live.ensures ∙ c.if-is_live.true)) c.loop-h.invariant)
 
 pub loop-h-preserved : goal.loop-h-preserved
@@ -17,5 +17,5 @@ loop-h-preserved c =
     (ap is_live (sym c.handle.ensures) ∙ (sym c.is_live.ensures ∙ c.if-is_live.false)) c.loop-h.invariant
 
 pub returns : goal.returns
-returns c = sym (none_live c.args.port.now c.loop-h.h c.journal-journal.ensures.port
+returns c = sym (none_live c.args.port.now c.loop-h.h c.known.ensures.port
     (omega (arith, c.loop-h-test.false)) c.loop-h.invariant)

@@ -7,7 +7,7 @@ returns-clause-log c = record {
   leads = (
     lit≤ tt,
     lit≤ tt,
-    record { nothing_due = refl; in_block = refl; item = refl },
+    record { nothing_due = refl; in_block = refl; between = refl; item = refl },
     (
       lit≤ tt,
       lit≤ tt,
@@ -17,16 +17,17 @@ returns-clause-log c = record {
         for_port = tt;
         entry = record { entry = _; some = lit< tt; stands = refl; is_answer = (refl, ([], refl)) };
         at_once = lit< tt;
+        of_call = refl;
         not_held_up = refl;
       },
       (
         lit≤ tt,
         lit≤ tt,
-        record { nothing_due = refl; next = refl; answers = refl },
+        record { nothing_due = refl; next = refl; between = refl; answers = refl },
         (
           lit≤ tt,
           lit≤ tt,
-          record { nothing_due = refl; in_block = refl; item = refl },
+          record { nothing_due = refl; in_block = refl; between = refl; item = refl },
           (
             lit≤ tt,
             lit≤ tt,
@@ -34,6 +35,7 @@ returns-clause-log c = record {
               is_due = refl;
               entry = record { entry = _; some = lit< tt; stands = refl; is_answer = (refl, ([], refl)) };
               at_once = refl;
+              of_call = refl;
             },
             (
               lit≤ tt,
@@ -44,6 +46,7 @@ returns-clause-log c = record {
                 for_port = tt;
                 entry = record { entry = _; some = lit< tt; stands = refl; is_answer = (refl, ([], refl)) };
                 at_once = lit< tt;
+                of_call = refl;
                 not_held_up = refl;
               },
               refl,

@@ -13,36 +13,37 @@ returns-clause-log c = record {
       for_port = tt;
       entry = record { entry = _; some = lit< tt; stands = refl; is_answer = (refl, ([], refl)) };
       at_once = lit< tt;
+      of_call = refl;
       not_held_up = refl;
     },
     (
       lit≤ tt,
       lit≤ tt,
-      record { nothing_due = refl; next = refl; answers = refl },
+      record { nothing_due = refl; next = refl; between = refl; answers = refl },
       (
         lit≤ tt,
         lit≤ tt,
-        record { nothing_due = refl; next = refl; answers = refl },
+        record { nothing_due = refl; next = refl; between = refl; answers = refl },
         (
           lit≤ tt,
           lit≤ tt,
-          record { nothing_due = refl; next = refl; answers = refl },
+          record { nothing_due = refl; next = refl; between = refl; answers = refl },
           (
             lit≤ tt,
             lit≤ tt,
-            record { nothing_due = refl; in_block = refl; item = refl },
+            record { nothing_due = refl; in_block = refl; between = refl; item = refl },
             (
               lit≤ tt,
               lit≤ tt,
-              record { nothing_due = refl; in_block = refl; item = refl },
+              record { nothing_due = refl; in_block = refl; between = refl; item = refl },
               (
                 lit≤ tt,
                 lit≤ tt,
-                record { nothing_due = refl; next = refl; answers = refl },
+                record { nothing_due = refl; next = refl; between = refl; answers = refl },
                 (
                   lit≤ tt,
                   lit≤ tt,
-                  record { nothing_due = refl; next = refl; answers = refl },
+                  record { nothing_due = refl; next = refl; between = refl; answers = refl },
                   (
                     lit≤ tt,
                     lit≤ tt,
@@ -52,6 +53,7 @@ returns-clause-log c = record {
                       for_port = tt;
                       entry = record { entry = _; some = lit< tt; stands = refl; is_answer = (refl, ([], refl)) };
                       at_once = lit< tt;
+                      of_call = refl;
                       not_held_up = refl;
                     },
                     refl,

@@ -7,11 +7,11 @@ returns-clause-log c = record {
   leads = (
     lit≤ tt,
     lit≤ tt,
-    record { nothing_due = refl; next = refl; answers = (refl, refl, refl) },
+    record { nothing_due = refl; next = refl; between = refl; answers = (refl, refl, refl) },
     (
       lit≤ tt,
       lit≤ tt,
-      record { nothing_due = refl; next = refl; answers = refl },
+      record { nothing_due = refl; next = refl; between = refl; answers = refl },
       refl,
     ),
   );

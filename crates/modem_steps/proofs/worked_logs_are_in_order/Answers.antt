@@ -6,7 +6,47 @@ pub returns-clause-dial_in : goal.returns-clause-dial_in
 unfolding is_cut window script
 returns-clause-dial_in c = record {
   turns = record {
-    entries = (refl, tt, (refl, tt, (refl, tt, (refl, tt, (refl, tt, (refl, tt, (refl, tt, (refl, tt, (refl, tt, (refl, tt, (refl, tt, (refl, tt, (refl, tt, (refl, tt, (refl, tt, tt)))))))))))))));
+    entries = (
+      refl,
+      tt,
+      (
+        refl,
+        tt,
+        (
+          refl,
+          tt,
+          (
+            refl,
+            tt,
+            (
+              refl,
+              tt,
+              (
+                refl,
+                tt,
+                (
+                  refl,
+                  tt,
+                  (
+                    refl,
+                    tt,
+                    (
+                      refl,
+                      tt,
+                      (
+                        refl,
+                        tt,
+                        (refl, tt, (refl, tt, (refl, tt, (refl, tt, (refl, tt, tt))))),
+                      ),
+                    ),
+                  ),
+                ),
+              ),
+            ),
+          ),
+        ),
+      ),
+    );
     events = (refl, (tt, (refl, (refl, (tt, (tt, tt))))));
   };
   seen = tt;
@@ -16,7 +56,27 @@ pub returns-clause-local_line : goal.returns-clause-local_line
 unfolding is_cut window script
 returns-clause-local_line c = record {
   turns = record {
-    entries = (refl, tt, (refl, tt, (refl, tt, (refl, tt, (refl, tt, (refl, tt, (refl, tt, (refl, tt, (refl, tt, (refl, tt, (refl, tt, (refl, tt, (refl, tt, tt)))))))))))));
+    entries = (
+      refl,
+      tt,
+      (
+        refl,
+        tt,
+        (
+          refl,
+          tt,
+          (
+            refl,
+            tt,
+            (
+              refl,
+              tt,
+              (refl, tt, (refl, tt, (refl, tt, (refl, tt, (refl, tt, (refl, tt, (refl, tt, (refl, tt, tt)))))))),
+            ),
+          ),
+        ),
+      ),
+    );
     events = (tt, (refl, (refl, (refl, (refl, (refl, (refl, (refl, (tt, tt)))))))));
   };
   seen = tt;

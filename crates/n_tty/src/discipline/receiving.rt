@@ -1,6 +1,6 @@
 //! Taking a character: what each step of the rules does.
 
-ghost use Rattle.std.specs.Prelude.{◌≡◌, ◌+◌, ◌-◌, ◌*◌, ◌%◌, ◌<◌, ◌≤◌, ◌^◌, true, not, ◌&&◌, [], ◌∷◌, length, take};
+ghost use Rattle.std.specs.Prelude.{◌≡◌, ◌+◌, ◌-◌, ◌*◌, ◌%◌, ◌<◌, ◌≤◌, true, ◌&&◌, [], ◌∷◌, length, take};
 ghost use Rattle.tty_base.specs.Sizes.{COUNT_END};
 ghost use Rattle.tty_modes.specs.Settings.{has_flag};
 ghost use Rattle.tty_modes.specs.declared.places.TheConstants.{ICANON};

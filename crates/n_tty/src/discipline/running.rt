@@ -1,8 +1,8 @@
 //! Receiving runs of characters at once.
 
-ghost use Rattle.std.specs.Prelude.{◌≡◌, ◌+◌, ◌*◌, ◌<◌, ◌≤◌, ◌^◌, false, length, take};
+ghost use Rattle.std.specs.Prelude.{◌≡◌, ◌+◌, ◌*◌, ◌<◌, ◌≤◌, false, length, take};
 ghost use Rattle.std.specs.List.{AllByRecursion};
-ghost use Rattle.tty_base.specs.Sizes.{COUNT_END};
+ghost use Rattle.tty_base.specs.Sizes.{COLUMNS_OF_CHARACTER, COUNT_END};
 ghost use Rattle.flow_control.specs.Output.{Output, is_halted};
 ghost use Rattle.flow_control.specs.declared.tally.Tally.{Tally};
 ghost use Rattle.n_tty.specs.States.{on_port, is_accepting, unread_count, FitsModes};
@@ -37,7 +37,7 @@ impl NTty {
         requires fitting { FitsModes modes.now self.old }
         requires room { pending_count self.old wire.old + CHARACTER_ROOM * length chars.now ≤ wire.old.spare }
         requires signals { length chars.now ≤ tally.old.signals.spare }
-        requires column { self.old.column + 2 ^ 22 * length chars.now < COUNT_END }
+        requires column { self.old.column + COLUMNS_OF_CHARACTER * length chars.now < COUNT_END }
         ensures within { result ≤ length chars.now }
         ensures after { on_port self.new wire.new tally.new
             ≡ after_characters modes.now now (take result chars.now) (on_port self.old wire.old tally.old) }
@@ -47,7 +47,7 @@ impl NTty {
         ensures spent { wire.old.spare + pending_count self.new wire.new
             ≤ wire.new.spare + (pending_count self.old wire.old + CHARACTER_ROOM * result) }
         ensures signals { tally.old.signals.spare ≤ tally.new.signals.spare + result }
-        ensures moved { self.new.column ≤ self.old.column + 2 ^ 22 * result }
+        ensures moved { self.new.column ≤ self.old.column + COLUMNS_OF_CHARACTER * result }
         ensures past { self.old.last ≤ now → self.new.last ≤ now }
     {
         let mut done = 0;
@@ -85,7 +85,7 @@ impl NTty {
         ensures spent { wire.old.spare + pending_count self.new wire.new
             ≤ wire.new.spare + (pending_count self.old wire.old + CHARACTER_ROOM * result) }
         ensures signals { tally.old.signals.spare ≤ tally.new.signals.spare + result }
-        ensures moved { self.new.column ≤ self.old.column + 2 ^ 22 * result }
+        ensures moved { self.new.column ≤ self.old.column + COLUMNS_OF_CHARACTER * result }
         ensures past { self.old.last ≤ now → self.new.last ≤ now }
     {
         let count = self.receive_run(chars, now, modes, wire);

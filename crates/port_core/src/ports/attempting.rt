@@ -1,6 +1,6 @@
 //! Attempts of calls.
 
-ghost use Rattle.std.specs.Prelude.{◌≡◌, ◌↔◌, ◌<◌, true, false, None, IsTrue, IfOk, IfErr, OnOk, OnErr, is_some, sum};
+ghost use Rattle.std.specs.Prelude.{◌≡◌, ◌↔◌, ◌<◌, true, false, None, IsTrue, IfOk, IfErr, OnOk, is_some, sum};
 ghost use Rattle.tty_calls.specs.Plain.{call_of, changes};
 
 use super::Port;

@@ -1,6 +1,6 @@
 //! Flushing: characters go from the flip buffer to the line discipline.
 
-ghost use Rattle.std.specs.Prelude.{◌≡◌, false, IfOk, IfErr, OnOk, OnErr};
+ghost use Rattle.std.specs.Prelude.{◌≡◌, false, IfOk, IfErr, OnOk};
 
 use super::Port;
 use crate::entries::{entry_of_flush, reserve_piece, starve};

@@ -1,7 +1,8 @@
 //! Giving: good characters of the line go past the flip buffer to the line discipline, where nothing waits
 //! in it and both of its ends are at hand.
 
-ghost use Rattle.std.specs.Prelude.{◌≡◌, ◌↔◌, ◌+◌, ◌≤◌, ◌^◌, false, length, IsTrue, IfOk, IfErr, OnOk};
+ghost use Rattle.std.specs.Prelude.{◌≡◌, ◌↔◌, ◌+◌, ◌≤◌, false, length, IsTrue, IfOk, IfErr, OnOk};
+ghost use Rattle.tty_base.specs.Sizes.{MOST_SENT};
 ghost use Rattle.tty_base.specs.Characters.{good_characters};
 ghost use Rattle.word_ring.specs.Ends.{NothingWaits};
 
@@ -39,7 +40,7 @@ impl Port {
         requires ring { putter.old.ring ≡ self.old.flip.ring }
         requires clear { NothingWaits putter.old self.old.flip }
         requires piece { IsPieceOf self.old run 0 8 }
-        requires small { length putter.old.sent + 8 ≤ 2 ^ 63 }
+        requires small { length putter.old.sent + 8 ≤ MOST_SENT }
         ensures open { OnOk result (IsOpen self.old) }
         ensures ok { IfOk result
             (λ flushed. FlushesGiven self.old self.new putter.old putter.new run (good_characters bytes.now) flushed) }
@@ -75,7 +76,7 @@ impl Port {
         requires ring { putter.old.ring ≡ self.old.flip.ring }
         requires clear { NothingWaits putter.old self.old.flip }
         requires piece { IsPieceOf self.old run 0 8 }
-        requires small { length putter.old.sent + 8 ≤ 2 ^ 63 }
+        requires small { length putter.old.sent + 8 ≤ MOST_SENT }
         requires entry { IsOpen self.old }
         requires free { is_stuck self.old.terminal ≡ false }
         requires line { self.old.terminal.line_over ≡ false }
@@ -111,7 +112,7 @@ impl Port {
         requires ring { putter.old.ring ≡ self.old.flip.ring }
         requires clear { NothingWaits putter.old self.old.flip }
         requires piece { IsPieceOf self.old run 0 8 }
-        requires small { length putter.old.sent + 8 ≤ 2 ^ 63 }
+        requires small { length putter.old.sent + 8 ≤ MOST_SENT }
         ensures open { OnOk result (IsOpen self.old) }
         ensures ok { IfOk result
             (λ flushed. FlushesGiven self.old self.new putter.old putter.new run (good_characters bytes.now) flushed) }

@@ -1,8 +1,9 @@
 //! What each call does.
 
-ghost use Rattle.std.specs.Prelude.{◌≡◌, ℕ, List, [], ◌∷◌, Option, Some, None, Bool, true, false, ◌==◌, ◌+◌, ◌-◌};
+ghost use Rattle.std.specs.Prelude.{◌≡◌, [], ◌∷◌, Option, Some, None, true, false, ◌==◌, ◌+◌, ◌-◌};
 ghost use Rattle.std.specs.Prelude.{◌*◌, ◌≤◌, ◌<◌, ◌^◌, min, length, drop, option_map, box_value, if◌then◌else◌};
-ghost use Rattle.tty_base.specs.Sizes.{COUNT_END, MOST_HELD, PIECE};
+ghost use Rattle.tty_base.specs.Sizes.{COLUMNS_OF_PIECE, COUNT_END, MOST_HANDLES, MOST_HELD, MOST_POSTED, NUMBER_END};
+ghost use Rattle.tty_base.specs.Sizes.{PIECE};
 ghost use Rattle.tty_calls.specs.Plain.{call_of, answer_of, counts_are};
 ghost use Rattle.tty_modes.specs.Word.{after_words};
 ghost use Rattle.flow_control.specs.Output.{on_wire};
@@ -60,12 +61,12 @@ fn modes_after(modes: &Modes, words: &[Word]) -> Modes
 
 impl Terminal {
     ghost use Rattle.tty_terminal.specs.Terminals.{handle_at, handle_for};
-    ghost use Rattle.tty_terminal.specs.Outcomes.{refuses, does, tells, on_live, on_access, may_read, may_write};
+    ghost use Rattle.tty_terminal.specs.Outcomes.{does, tells, on_live, on_access, may_read, may_write};
     ghost use Rattle.tty_terminal.specs.Opening.{opening_outcome, closing_outcome};
     ghost use Rattle.tty_terminal.specs.Transfers.{reading_outcome, writing_outcome, write_outcome};
     ghost use Rattle.tty_terminal.specs.Modes.{modes_outcome, drain_outcome, with_modes, without_input};
     ghost use Rattle.tty_terminal.specs.Switching.{number_of, change_outcome, hangup_outcome};
-    ghost use Rattle.tty_terminal.specs.Flow.{flush_outcome, after_act, without_held, with_character_sent};
+    ghost use Rattle.tty_terminal.specs.Flow.{flush_outcome, after_act};
     ghost use Rattle.tty_terminal.specs.Packets.{sending_outcome, taking_outcome};
     ghost use Rattle.tty_terminal.specs.Meeting.{Meets, left_before_rule, read_room, packet_room};
     ghost use Rattle.tty_terminal.specs.Meeting.{close_kind, CanAct, Acts, group_of};
@@ -81,7 +82,7 @@ impl Terminal {
     }
 
     fn open(&mut self, h: u8, access: Access, nonblock: bool) -> Met
-        requires { h < 32 }
+        requires { h < MOST_HANDLES }
         ensures met { Meets (opening_outcome self.old.terminal h access nonblock) result }
         ensures left { self.new.terminal
             ≡ left_before_rule (opening_outcome self.old.terminal h access nonblock) self.old.terminal }
@@ -102,13 +103,13 @@ impl Terminal {
     fn close(&mut self, h: u8, room: &mut Room) -> Met
         requires fresh { fresh_in room.old
             ≡ option_map fresh_of (close_kind self.old.terminal (handle_at self.old.terminal h)) }
-        requires few { self.old.terminal.generation < 2 ^ 31 }
+        requires few { self.old.terminal.generation < NUMBER_END }
         requires wire { MOST_HELD ≤ self.old.wire_room }
         ensures met { Meets (closing_outcome self.old.terminal h (handle_at self.old.terminal h)) result }
         ensures left { self.new.terminal
             ≡ left_before_rule (closing_outcome self.old.terminal h (handle_at self.old.terminal h)) self.old.terminal }
         ensures wire { self.old.wire_room ≤ self.new.wire_room + MOST_HELD }
-        ensures column { column_in self.new.terminal.disc ≤ column_in self.old.terminal.disc + 64 * PIECE }
+        ensures column { column_in self.new.terminal.disc ≤ column_in self.old.terminal.disc + COLUMNS_OF_PIECE }
     {
         if !self.handles.remove(h) {
             return refuse(Errno::EBADF);
@@ -167,13 +168,13 @@ impl Terminal {
     #[inline(always)]
     fn write(&mut self, state: &CallerState, handle: Option<HandleState>, bytes: &[u8]) -> Met
         requires short { state.now.taken + min PIECE (length bytes.now - state.now.taken) < 2 ^ 32 }
-        requires wire { 512 ≤ self.old.wire_room }
+        requires wire { MOST_POSTED ≤ self.old.wire_room }
         requires column { column_in self.old.terminal.disc < COUNT_END }
         ensures met { Meets (writing_outcome self.old.terminal state.now bytes.now handle) result }
         ensures left { self.new.terminal
             ≡ left_before_rule (writing_outcome self.old.terminal state.now bytes.now handle) self.old.terminal }
-        ensures wire { self.old.wire_room ≤ self.new.wire_room + 512 }
-        ensures column { column_in self.new.terminal.disc ≤ column_in self.old.terminal.disc + 64 * PIECE }
+        ensures wire { self.old.wire_room ≤ self.new.wire_room + MOST_POSTED }
+        ensures column { column_in self.new.terminal.disc ≤ column_in self.old.terminal.disc + COLUMNS_OF_PIECE }
     {
         let Some(handle) = handle else {
             return refuse_write(state, Errno::EBADF);
@@ -193,15 +194,15 @@ impl Terminal {
     /// Writes the bytes that are left of a write that nothing refuses, as far as they fit.
     fn write_rest(&mut self, state: &CallerState, nonblock: bool, rest: &[u8]) -> Met
         requires short { state.now.taken + min PIECE (length rest.now) < 2 ^ 32 }
-        requires wire { 512 ≤ self.old.wire_room }
+        requires wire { MOST_POSTED ≤ self.old.wire_room }
         requires column { column_in self.old.terminal.disc < COUNT_END }
         ensures met { Meets (write_outcome self.old.terminal state.now nonblock rest.now self.old.terminal.disc)
             result }
         ensures left { self.new.terminal
             ≡ left_before_rule (write_outcome self.old.terminal state.now nonblock rest.now self.old.terminal.disc)
             self.old.terminal }
-        ensures wire { self.old.wire_room ≤ self.new.wire_room + 512 }
-        ensures column { column_in self.new.terminal.disc ≤ column_in self.old.terminal.disc + 64 * PIECE }
+        ensures wire { self.old.wire_room ≤ self.new.wire_room + MOST_POSTED }
+        ensures column { column_in self.new.terminal.disc ≤ column_in self.old.terminal.disc + COLUMNS_OF_PIECE }
     {
         match &mut self.disc {
             Disc::Slip(_) => refuse_write(state, Errno::EIO),
@@ -322,7 +323,7 @@ impl Terminal {
     fn set_disc(&mut self, handle: Option<HandleState>, number: u32, room: &mut Room) -> Met
         requires fresh { fresh_in room.old
             ≡ option_map fresh_of (if number_of self.old.terminal.disc == number then None else kind_of_number number) }
-        requires few { self.old.terminal.generation < 2 ^ 31 }
+        requires few { self.old.terminal.generation < NUMBER_END }
         requires wire { MOST_HELD ≤ self.old.wire_room }
         ensures met { Meets
             (on_live self.old.terminal handle (change_outcome self.old.terminal number (kind_of_number number)))
@@ -332,7 +333,7 @@ impl Terminal {
             (on_live self.old.terminal handle (change_outcome self.old.terminal number (kind_of_number number)))
             self.old.terminal }
         ensures wire { self.old.wire_room ≤ self.new.wire_room + MOST_HELD }
-        ensures column { column_in self.new.terminal.disc ≤ column_in self.old.terminal.disc + 64 * PIECE }
+        ensures column { column_in self.new.terminal.disc ≤ column_in self.old.terminal.disc + COLUMNS_OF_PIECE }
     {
         let Some(handle) = handle else {
             return refuse(Errno::EBADF);
@@ -355,7 +356,7 @@ impl Terminal {
     #[inline(never)]
     fn vhangup(&mut self, handle: Option<HandleState>, room: &mut Room) -> Met
         requires fresh { fresh_in room.old ≡ Some (fresh_of Kind.Tty) }
-        requires few { self.old.terminal.generation < 2 ^ 31 }
+        requires few { self.old.terminal.generation < NUMBER_END }
         ensures met { Meets (on_live self.old.terminal handle (hangup_outcome self.old.terminal)) result }
         ensures left { self.new.terminal
             ≡ left_before_rule (on_live self.old.terminal handle (hangup_outcome self.old.terminal)) self.old.terminal }

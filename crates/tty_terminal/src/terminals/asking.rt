@@ -2,8 +2,8 @@
 //! stands what must be known beforehand, call by call: whether it must wait, whether it drops what
 //! waits in the flip buffer, and what it needs.
 
-ghost use Rattle.std.specs.Prelude.{◌≡◌, ◌↔◌, ℕ, [], true, ◌≤◌, ◌<◌, ◌^◌, IsTrue, IfOk, length};
-ghost use Rattle.tty_base.specs.Sizes.{COUNT_END};
+ghost use Rattle.std.specs.Prelude.{◌≡◌, ◌↔◌, [], true, ◌≤◌, ◌<◌, IsTrue, IfOk, length};
+ghost use Rattle.tty_base.specs.Sizes.{COUNT_END, MOST_HANDLES};
 ghost use Rattle.tty_calls.specs.Plain.{handle_of, call_of};
 ghost use Rattle.ldisc_switch.specs.Disciplines.{column_in, fresh_of};
 ghost use Rattle.handle_table.specs.Handles.{is_live as is_live_handle};
@@ -259,7 +259,7 @@ impl Terminal {
     #[inline(always)]
     pub fn must_wait(&self, caller: u16, call: &Call) -> bool
         requires known { caller < length self.now.terminal.callers }
-        requires number { handle_of (call_of call.now) < 32 }
+        requires number { handle_of (call_of call.now) < MOST_HANDLES }
         requires column { column_in self.now.terminal.disc < COUNT_END }
         ensures value { result
             ≡ is_wait (outcome self.now.terminal (caller_at self.now.terminal caller) (call_of call.now)) }
@@ -296,7 +296,7 @@ impl Terminal {
     #[inline(always)]
     pub fn drops(&self, caller: u16, call: &Call) -> bool
         requires known { caller < length self.now.terminal.callers }
-        requires number { handle_of (call_of call.now) < 32 }
+        requires number { handle_of (call_of call.now) < MOST_HANDLES }
         ensures { result
             ≡ drops_of (outcome self.now.terminal (caller_at self.now.terminal caller) (call_of call.now)) }
     {

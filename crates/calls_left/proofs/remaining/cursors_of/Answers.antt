@@ -1,4 +1,4 @@
-use Rattle.std.proofs.Common.{◌≤◌, length, arith, ap, sym, ◌∙◌}
+use Rattle.std.proofs.Common.{arith, ap, sym, ◌∙◌}
 use Rattle.calls_left.proofs.Mixed.{starts, no_cursors, own_cursor, other_script, all_cursors}
 use Rattle.calls_left.proofs.remaining.cursors_of.Goals as goal
 use Rattle.calls_left.proofs.remaining.cursors_of.Goals.{then-script-port+in_ok-push, else-script-port}

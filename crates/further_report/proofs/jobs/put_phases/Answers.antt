@@ -16,8 +16,8 @@ loop-place-preserved c =
     phase_more own_verb t.port t.names answers c.args.text.now.items (replicate (length t.names) 0)
     (scripts_beside parts 0 (map phase_of phases))
     c.loop-place.text.items c.put_scripts.new.text.items c.loop-place.steps.items c.put_scripts.new.steps.items parts
-    phases c.loop-place.place c.index-phases-place.result c.as_slice.result.now c.placed_in-placed.result.now
-    c.loop-place-test.true c.index-phases-place.is c.as_slice.ensures c.placed_in-placed.ensures
+    phases c.loop-place.place c.index-phases-place.result c.as_slice.result.now c.own_in-placed.result.now
+    c.loop-place-test.true c.index-phases-place.is c.as_slice.ensures c.own_in-placed.ensures
     c.in_ok-put_scripts.ensures.text c.in_ok-put_scripts.ensures.steps
     c.in_ok-put_scripts.ensures.each c.loop-place.invariant
 

@@ -1,6 +1,7 @@
 use Rattle.std.proofs.Common.{◌≡◌, ℕ, ◌+◌, ◌-◌, ◌<◌, length}
 use Rattle.std.specs.Prelude.{count_by}
 use Rattle.std.specs.List.{range_with_len}
+use Rattle.tty_base.specs.Sizes.{GROUP_END}
 use Rattle.job_control.specs.Roster.{group_at}
 use Rattle.job_control.specs.Keeping.{counted, lives_under, living_count}
 use Rattle.job_control.proofs.roster.living_in.Given as goal
@@ -11,4 +12,4 @@ invariant-loop-place l =
     → counted l.living key
     + count_by (lives_under l.procs l.exited key) (range_with_len l.place (length l.procs - l.place))
     ≡ living_count l.procs l.exited key)
-    × ((p : ℕ) → p < l.place → group_at l.procs p < 65536)
+    × ((p : ℕ) → p < l.place → group_at l.procs p < GROUP_END)

@@ -16,7 +16,8 @@ take_flush-requires g c = (
 pub returns-in-Flush-clause-ok : goal.returns-in-Flush-clause-ok
 returns-in-Flush-clause-ok g c =
     IfOk-weaker c.take_flush.result (λ now.
-    TakesNoCall g.frame c.args.roles.now c.args.port.now c.take_flush.new.port c.args.desk.now c.take_flush.new.desk now)
+    TakesNoCall g.frame c.args.roles.now c.args.port.now c.take_flush.new.port c.args.desk.now c.take_flush.new.desk
+    now)
     (λ now. IsBetweenTurns g.frame c.args.roles.now c.take_flush.new.port c.take_flush.new.desk now c.args.calls.now)
     (λ now t. between_turn g.frame c.args.roles.now c.args.port.now c.take_flush.new.port c.args.desk.now
     c.take_flush.new.desk c.args.stand now c.args.calls.now c.requires.0 t) c.take_flush.ensures.ok
@@ -24,7 +25,8 @@ returns-in-Flush-clause-ok g c =
 pub returns-in-Flush-clause-less : goal.returns-in-Flush-clause-less
 returns-in-Flush-clause-less g c =
     IfOk-weaker c.take_flush.result (λ now.
-    TakesNoCall g.frame c.args.roles.now c.args.port.now c.take_flush.new.port c.args.desk.now c.take_flush.new.desk now)
+    TakesNoCall g.frame c.args.roles.now c.args.port.now c.take_flush.new.port c.args.desk.now c.take_flush.new.desk
+    now)
     (λ now. turns_left c.take_flush.new.port c.args.calls.now < turns_left c.args.port.now c.args.calls.now)
     (λ now t. less_turn g.frame c.args.roles.now c.args.port.now c.take_flush.new.port c.args.calls.now t.gone)
     c.take_flush.ensures.ok
@@ -44,7 +46,8 @@ take_pass-requires g c = (
 pub returns-in-Pass-clause-ok : goal.returns-in-Pass-clause-ok
 returns-in-Pass-clause-ok g c =
     IfOk-weaker c.take_pass.result
-    (λ now. TakesNoCall g.frame c.args.roles.now c.args.port.now c.take_pass.new.port c.args.desk.now c.args.desk.now now)
+    (λ now. TakesNoCall g.frame c.args.roles.now c.args.port.now c.take_pass.new.port c.args.desk.now c.args.desk.now
+    now)
     (λ now. IsBetweenTurns g.frame c.args.roles.now c.take_pass.new.port c.args.desk.now now c.args.calls.now)
     (λ now t. between_turn g.frame c.args.roles.now c.args.port.now c.take_pass.new.port c.args.desk.now c.args.desk.now
     c.args.stand now c.args.calls.now c.requires.0 t) c.take_pass.ensures.ok
@@ -52,7 +55,8 @@ returns-in-Pass-clause-ok g c =
 pub returns-in-Pass-clause-less : goal.returns-in-Pass-clause-less
 returns-in-Pass-clause-less g c =
     IfOk-weaker c.take_pass.result
-    (λ now. TakesNoCall g.frame c.args.roles.now c.args.port.now c.take_pass.new.port c.args.desk.now c.args.desk.now now)
+    (λ now. TakesNoCall g.frame c.args.roles.now c.args.port.now c.take_pass.new.port c.args.desk.now c.args.desk.now
+    now)
     (λ now. turns_left c.take_pass.new.port c.args.calls.now < turns_left c.args.port.now c.args.calls.now)
     (λ now t. less_turn g.frame c.args.roles.now c.args.port.now c.take_pass.new.port c.args.calls.now t.gone)
     c.take_pass.ensures.ok

@@ -33,9 +33,9 @@ hang_up-requires g c = (
   c.requires.1.1.0,
   hangs_controlled g.frame c.args.roles.now c.args.port.now c.args.desk.now c.control.new.self c.args.stand c.args.place
       c.in-Some.h c.args.call c.in_ok-due.due c.requires.0 c.requires.1.0 c.requires.1.1.0
-      c.journal-journal.ensures.port c.requires.1.1.1
+      c.known.ensures.port c.requires.1.1.1
       (is_controlled g.frame c.args.roles.now c.args.port.now c.args.desk.now c.control.new.self c.args.stand
-      c.args.place c.args.call _ c.in_ok-due.due c.requires.1.0 c.requires.1.1.0 c.journal-journal.ensures.port
+      c.args.place c.args.call _ c.in_ok-due.due c.requires.1.0 c.requires.1.1.0 c.known.ensures.port
       c.requires.1.1.1 c.in_ok-due.ensures.due c.in_ok-due.ensures.ok)
       (sym c.hangup_through.ensures ∙ c.in-Some.is),
 )
@@ -45,7 +45,7 @@ returns-in_ok-now-in-Some-clause-ok g c =
     takes_hung_up g.frame c.args.roles.now c.args.port.now c.hang_up.new.port c.args.desk.now c.control.new.self
     c.hang_up.new.desk c.args.stand _ c.args.place (further c.args.call) c.in_ok-due.due c.requires.1.1.1
     (is_controlled g.frame c.args.roles.now c.args.port.now c.args.desk.now c.control.new.self c.args.stand c.args.place
-    c.args.call _ c.in_ok-due.due c.requires.1.0 c.requires.1.1.0 c.journal-journal.ensures.port c.requires.1.1.1
+    c.args.call _ c.in_ok-due.due c.requires.1.0 c.requires.1.1.0 c.known.ensures.port c.requires.1.1.1
     c.in_ok-due.ensures.due c.in_ok-due.ensures.ok)
     c.in_ok-now-in-Some.ensures.ok
 
@@ -54,6 +54,6 @@ returns-in-None-clause-ok g c =
     takes_controlled g.frame c.args.roles.now c.args.port.now c.args.desk.now c.control.new.self c.args.stand
     c.args.place (further c.args.call) c.in_ok-due.due c.requires.1.1.1
     (is_controlled g.frame c.args.roles.now c.args.port.now c.args.desk.now c.control.new.self c.args.stand c.args.place
-    c.args.call _ c.in_ok-due.due c.requires.1.0 c.requires.1.1.0 c.journal-journal.ensures.port c.requires.1.1.1
+    c.args.call _ c.in_ok-due.due c.requires.1.0 c.requires.1.1.0 c.known.ensures.port c.requires.1.1.1
     c.in_ok-due.ensures.due c.in_ok-due.ensures.ok)
     (sym c.hangup_through.ensures ∙ c.in-None.is)

@@ -24,7 +24,7 @@ stop-requires-clause-caller g c = caller_own g.frame c.args.roles.now c.args.por
 pub returns-clause-ok : goal.returns-clause-ok
 returns-clause-ok g c =
     stop_at g.frame c.args.roles.now c.args.port.now c.args.desk.now c.stop.new.self c.args.stand c.args.place
-    (call_of c.args.call.now) _ c.judge-judged.result c.requires.0 c.requires.1.0 c.journal-journal.ensures.port
+    (call_of c.args.call.now) _ c.judge-judged.result c.requires.0 c.requires.1.0 c.known.ensures.port
     c.requires.1.1 c.judge-judged.ensures c.in_ok-stop.ensures.ok
 
 pub returns-in_err-stop-clause-err : goal.returns-in_err-stop-clause-err

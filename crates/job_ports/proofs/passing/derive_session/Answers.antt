@@ -8,12 +8,13 @@ use Rattle.job_text.specs.declared.calls.OwnCall.{OwnCall}
 use Rattle.job_text.specs.Events.{logged_of}
 use Rattle.job_text.specs.Sessions.{jobs_session_of, own_of}
 use Rattle.derived_session.specs.Steps.{derived_of, passings_of, phases_steps, scripts_in}
-use Rattle.job_one.specs.Played.{derived_with, journal_on}
-use Rattle.job_ports.specs.Ports.{all_passed}
+use Rattle.job_one.specs.Played.{derived_with, all_passed}
 use Rattle.job_ports.proofs.Bounded.{plain_within}
-use Rattle.job_ports.proofs.Derived.{derived_are, lists_of, passings_are, scripts_on_ports, single_still}
+use Rattle.job_ports.proofs.Derived.{derived_are, passings_are, scripts_on_ports}
 use Rattle.job_ports.proofs.passing.derive_session.Goals as goal
 use Rattle.job_ports.proofs.passing.derive_session.Goals.{After-as_slice-3}
+use Rattle.passed_laws.specs.Sessions.{journal_on}
+use Rattle.passed_ports.proofs.Joining.{single_still}
 
 abbrev Placed : Type 0
 Placed = List (PlacedCall OwnCall)
@@ -32,22 +33,22 @@ placed_are c =
     ∙ (c.in_ok-placed.ensures ∙ ap (map own_of) c.as_slice.ensures)
 
 lists_are : (c : After-as_slice-3)
-    → map (λ d. d.items) c.as_slice-3.result.now ≡ lists_of c.in_ok-passed.passed.items
-lists_are c = ap lists_of c.as_slice-3.ensures.value
+    → map (λ d. d.items) c.as_slice-3.result.now ≡ map (λ v. v.items) c.in_ok-passed.passed.items
+lists_are c = ap (map (λ v. v.items)) c.as_slice-3.ensures.value
 
 -- what each port was passed
 each_is : (c : After-as_slice-3) (p : ℕ)
     → passings_of
     (scripts_in
     (phases_steps (map own_of c.args.session.now.parts.items) [] 0 (session_of c.args.session.now.session).phases))
-    (lists_of c.in_ok-passed.passed.items) p
+    (map (λ v. v.items) c.in_ok-passed.passed.items) p
     ≡ all_passed (jobs_session_of c.args.session.now) (map logged_of c.args.log.now) p (journal_on c.args.runs.now p)
 each_is c p =
     let kept = c.args.session.now in
     let base = session_of kept.session in
     let vs = c.in_ok-passed.passed.items in
     passings_are base kept.procs.items (map own_of kept.parts.items) (map logged_of c.args.log.now) c.args.runs.now
-    (lists_of vs) c.requires.runs c.requires.log
+    (map (λ v. v.items) vs) c.requires.runs c.requires.log
     (length-map vs (λ v. v.items) ∙ c.in_ok-passed.ensures.many) c.in_ok-passed.ensures.each p
 
 pub derive-requires-clause-single : goal.derive-requires-clause-single
@@ -79,4 +80,4 @@ returns c =
     is
     ∙ ((λ i. derived_of base (phases_steps (placed_are handed i) [] 0 base.phases) (lists_are handed i))
     ∙ derived_are base kept.procs.items (map own_of kept.parts.items) log runs
-    (lists_of c.in_ok-passed.passed.items) (each_is handed))) c.derive.ensures
+    (map (λ v. v.items) c.in_ok-passed.passed.items) (each_is handed))) c.derive.ensures

@@ -16,7 +16,7 @@ play_after_line-ended-requires g c =
     let begins = turns_begin g.setting c.args.roles.now c.args.at.now c.args.run c.args.calls.now c.args.steps.now.items
     c.args.ticks c.args.clock_first c.play_line-played.new.port c.play_line-played.new.putter
     c.play_line-played.new.line c.in_ok-run.run' c.play_line-played.new.desk
-    c.requires c.in_ok-run.ensures.ok c.in_ok-run.ensures.sends c.journal-journal.ensures.port in
+    c.requires c.in_ok-run.ensures.ok c.in_ok-run.ensures.sends c.known.ensures.port in
     (begins.0, (c.requires.clock, begins.1))
 
 pub returns-in_err-run-clause-err : goal.returns-in_err-run-clause-err
@@ -32,7 +32,7 @@ returns-in_err-run-clause-err g c =
     rw (p.1, p.2)
     (line_stops c.in_err-run.field-0.0 g.setting c.args.roles.now at c.args.run c.args.calls.now c.args.steps.now.items
     c.args.ticks c.args.clock_first left new.port new.putter new.line new.desk
-    c.requires c.in_err-run.ensures.err c.in_err-run.ensures.stops c.journal-journal.ensures.port refl refl refl refl)
+    c.requires c.in_err-run.ensures.err c.in_err-run.ensures.stops c.known.ensures.port refl refl refl refl)
 
 pub returns-clause-ok : goal.returns-clause-ok
 returns-clause-ok g c =

@@ -4,10 +4,10 @@ use Rattle.std.specs.Vec.{with_items}
 use Rattle.std.proofs.lemmas.List.{with_items_is}
 use Rattle.tty_calls.specs.declared.sessions.Script.{Script}
 use Rattle.tty_calls.specs.Sessions.{session_of, script_of, line_on, ticks_on}
-use Rattle.journal_check.specs.Legal.{phase_at}
-use Rattle.one_thread.specs.Casting.{AreNumbered, HaveSameCallers, cast_of}
-use Rattle.one_thread.specs.Roles.{scene_of, role_in}
-use Rattle.one_thread.specs.declared.roles.Role.{Role}
+use Rattle.legal_runs.specs.Legal.{phase_at}
+use Rattle.play_base.specs.Casting.{AreNumbered, HaveSameCallers, cast_of}
+use Rattle.play_base.specs.Roles.{scene_of, role_in}
+use Rattle.play_base.specs.declared.roles.Role.{Role}
 use Rattle.job_text.specs.Sessions.{jobs_session_of, own_of}
 use Rattle.passed_laws.specs.Filled.{AreNextSteps}
 use Rattle.job_ports.specs.declared.phases.JobStation.{JobStation}

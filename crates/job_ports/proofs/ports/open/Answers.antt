@@ -1,8 +1,8 @@
 use Rattle.std.proofs.Common.{ℕ, List, length, refl, sym, ap, ◌∙◌, subst, arith}
 use Rattle.tty_calls.specs.Sessions.{session_of, scripts_over, names_of}
-use Rattle.one_thread.specs.Phases.{IsBeforePhase}
-use Rattle.one_thread.specs.Roles.{scene_of}
-use Rattle.one_thread.proofs.NameLemmas.{number_at}
+use Rattle.play_base.specs.Phases.{IsBeforePhase}
+use Rattle.play_base.specs.Roles.{scene_of}
+use Rattle.play_base.proofs.NameLemmas.{number_at}
 use Rattle.job_control.specs.declared.processes.Proc.{Proc}
 use Rattle.job_ports.specs.Callers.{StandOnce}
 use Rattle.job_ports.proofs.Beginning.{base_within}
@@ -33,4 +33,4 @@ returns c =
     ∙ ap (λ (q : ℕ). names_of (scripts_over q (session_of kept.session).phases)) c.from-port.ensures)
     c.in_ok-desk.ensures.opened c.in_ok-desk.ensures.callers
     (subst (λ (q : ℕ). IsBeforePhase (scene_of q kept.session) 0 c.in_ok-station.station 0)
-    c.from-port.ensures c.in_ok-station.ensures) c.journal-journal.ensures.port refl refl
+    c.from-port.ensures c.in_ok-station.ensures) c.known.ensures.port refl refl

@@ -1,4 +1,4 @@
-use Rattle.one_thread.specs.Roles.{scene_of}
+use Rattle.play_base.specs.Roles.{scene_of}
 use Rattle.job_text.specs.Sessions.{jobs_session_of}
 use Rattle.job_ports.specs.Between.{IsBetween, setting_of}
 use Rattle.job_ports.proofs.ports.play_phases.Given as goal

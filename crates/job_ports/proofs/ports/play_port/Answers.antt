@@ -3,7 +3,7 @@ use Rattle.std.proofs.lemmas.Result.{IfOk-weaker}
 use Rattle.tty_calls.specs.declared.answers.Denied.{Denied}
 use Rattle.tty_calls.specs.declared.answers.Denied.TheVariants.{Full}
 use Rattle.tty_calls.specs.Sessions.{session_of}
-use Rattle.one_thread.specs.Roles.{scene_of}
+use Rattle.play_base.specs.Roles.{scene_of}
 use Rattle.job_text.specs.Events.{logged_of}
 use Rattle.job_text.specs.Sessions.{jobs_session_of, own_of}
 use Rattle.job_one.specs.Events.{AreOn}

@@ -7,7 +7,7 @@ use Rattle.tty_terminal.specs.Runs.{chars_of}
 use Rattle.uart_line.specs.Received.{received_list}
 use Rattle.uart_line.specs.Offered.{kept_list}
 use Rattle.journal_check.specs.declared.lines.Received.{Received}
-use Rattle.journal_check.specs.Legal.{phase_at, script_on}
+use Rattle.legal_runs.specs.Legal.{phase_at, script_on}
 use Rattle.journal_check.specs.Finishing.{goes_well}
 use Rattle.journal_check.proofs.CheckLemmas.{kept_is, kept_as_found}
 use Rattle.journal_check.proofs.account.is_kept.Goals as goal

@@ -1,7 +1,7 @@
 use Rattle.std.proofs.Common.{ℕ, ◌+◌, nat_eq, length, get_or, sym, ◌∙◌, ap, arith}
 use Rattle.tty_calls.specs.Plain.{entry_of}
 use Rattle.tty_calls.specs.Sessions.{session_of, ticks_on}
-use Rattle.journal_check.specs.Legal.{phase_at}
+use Rattle.legal_runs.specs.Legal.{phase_at}
 use Rattle.journal_check.specs.Finishing.{may_go}
 use Rattle.journal_check.proofs.WalkLemmas.{last_hangup, not_last, not_well, well_more}
 use Rattle.journal_check.proofs.finishing.goes_well.Goals as goal

@@ -1,6 +1,6 @@
 use Rattle.std.proofs.Common.{◌≡◌, ◌≤◌, drop, length, get_or}
 use Rattle.tty_calls.specs.Sessions.{session_of, ticks_on}
-use Rattle.journal_check.specs.Legal.{phase_at}
+use Rattle.legal_runs.specs.Legal.{phase_at}
 use Rattle.journal_check.specs.Finishing.{goes_well}
 use Rattle.journal_check.proofs.finishing.goes_well.Given as goal
 

@@ -5,7 +5,7 @@ use Rattle.tty_calls.specs.Sessions.{PlainSession, session_of, call_at, counts_o
 use Rattle.tty_terminal.specs.Terminals.{Terminal}
 use Rattle.ldisc_switch.specs.Disciplines.{column_in}
 use Rattle.tty_terminal.specs.Steps.{IsAllowed}
-use Rattle.journal_check.specs.Legal.{IsInPhase}
+use Rattle.legal_runs.specs.Legal.{IsInPhase}
 use Rattle.journal_check.specs.Scripts.{AreTurns}
 use Rattle.journal_check.specs.declared.replay.Replay.{Replay}
 use Rattle.journal_check.proofs.ReplayLemmas.{stays_if_fine, next_idle, next_small, goes_on, tries_true}

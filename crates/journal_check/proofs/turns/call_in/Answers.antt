@@ -1,7 +1,7 @@
 use Rattle.std.proofs.Common.{◌≡◌, Some, rules}
 use Rattle.tty_calls.specs.Plain.{call_of}
 use Rattle.tty_calls.specs.Sessions.{session_of}
-use Rattle.journal_check.specs.Legal.{name_at}
+use Rattle.legal_runs.specs.Legal.{name_at}
 use Rattle.journal_check.proofs.TurnLemmas.{step_there, call_there}
 use Rattle.journal_check.proofs.turns.call_in.Goals as goal
 

@@ -1,6 +1,6 @@
 use Rattle.std.proofs.Common.{take}
 use Rattle.tty_calls.specs.Sessions.{session_of}
-use Rattle.journal_check.specs.Legal.{phase_at}
+use Rattle.legal_runs.specs.Legal.{phase_at}
 use Rattle.journal_check.specs.Scripts.{AreTurnsAmong}
 use Rattle.journal_check.proofs.turns.open_phase.Given as goal
 

@@ -1,13 +1,14 @@
-use Rattle.std.proofs.Common.{◌+◌, ◌-◌, ◌^◌, ◌≤◌, List, [], ◌++◌, take, refl}
+use Rattle.std.proofs.Common.{◌+◌, ◌-◌, ◌≤◌, List, [], ◌++◌, take, refl}
 use Rattle.std.proofs.Common.{sym, subst, ◌∙◌, arith, append-nil, length}
 use Rattle.std.proofs.lemmas.List.{take_all}
+use Rattle.tty_base.specs.Sizes.{MOST_SENT}
 use Rattle.tty_base.specs.declared.characters.Flag.TheVariants.{Normal}
 use Rattle.tty_base.specs.declared.characters.Flagged.{Flagged}
 use Rattle.tty_base.specs.declared.lines.LineStep.{LineStep}
 use Rattle.tty_base.specs.declared.lines.LineStep.TheVariants.{Rx}
 use Rattle.uart_line.specs.Received.{received_list}
 use Rattle.uart_line.proofs.Steps.{take-step, arrival_count-take, arrival_count-take-≤, HandsOver-none}
-use Rattle.one_thread.proofs.LineSteps.{names_tell}
+use Rattle.play_base.proofs.Meetings.{names_tell}
 use Rattle.many_threads.proofs.SendLemmas.{hands_over_more, closed_script-append}
 use Rattle.many_threads.proofs.line_part.send.Goals as goal
 
@@ -42,7 +43,7 @@ step-requires-clause-room g c =
 
 pub step-requires-clause-put : goal.step-requires-clause-put
 step-requires-clause-put g c =
-    subst (λ (sent : List Flagged). c.loop-step.line.most ≤ (2 ^ 63 - length sent) + c.loop-step.line.handed)
+    subst (λ (sent : List Flagged). c.loop-step.line.most ≤ (MOST_SENT - length sent) + c.loop-step.line.handed)
     (sym c.give_way.ensures.sent) c.loop-step.invariant.put
 
 pub loop-step-preserved : goal.loop-step-preserved

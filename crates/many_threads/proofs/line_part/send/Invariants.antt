@@ -1,5 +1,6 @@
-use Rattle.std.proofs.Common.{◌≡◌, ◌+◌, ◌-◌, ◌^◌, ◌≤◌, List, ◌++◌, take, length}
+use Rattle.std.proofs.Common.{◌≡◌, ◌+◌, ◌-◌, ◌≤◌, List, ◌++◌, take, length}
 use Rattle.std.specs.List.Sorted.{IsNonDecreasing}
+use Rattle.tty_base.specs.Sizes.{MOST_SENT}
 use Rattle.tty_base.specs.declared.lines.LineStep.{LineStep}
 use Rattle.tty_base.specs.Lines.{arrival_count}
 use Rattle.uart_line.specs.Received.{received_list}
@@ -22,5 +23,5 @@ invariant-loop-step g l = record {
   rise : IsNonDecreasing l.initial.putter.heads → IsNonDecreasing l.putter.heads;
   room : l.line.most ≡ l.initial.line.most;
   arrived : l.line.report.arrived ≡ l.initial.line.report.arrived + arrival_count (take l.step-index l.steps);
-  put : l.line.most ≤ (2 ^ 63 - length l.putter.sent) + l.line.handed;
+  put : l.line.most ≤ (MOST_SENT - length l.putter.sent) + l.line.handed;
 }

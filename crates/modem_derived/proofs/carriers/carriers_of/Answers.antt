@@ -3,8 +3,9 @@ use Rattle.std.specs.Prelude.{slice_index_or}
 use Rattle.tty_calls.specs.Sessions.{session_of}
 use Rattle.modem_text.specs.declared.sessions.ModemPart.{ModemPart}
 use Rattle.modem_derived.specs.Blocks.{carriers_in, pins_of}
-use Rattle.modem_derived.proofs.Listed.{IsCarried, one_more_listed}
+use Rattle.modem_derived.proofs.Listed.{IsCarried}
 use Rattle.modem_derived.proofs.carriers.carriers_of.Goals as goal
+use Rattle.derived_session.proofs.Listed.{one_more_listed}
 
 pub loop-k-preserved : goal.loop-k-preserved
 loop-k-preserved c =

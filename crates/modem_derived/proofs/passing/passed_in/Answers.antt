@@ -1,8 +1,9 @@
-use Rattle.std.proofs.Common.{map, ◌∙◌}
+use Rattle.std.proofs.Common.{map}
 use Rattle.tty_calls.specs.Sessions.{session_of}
 use Rattle.modem_text.specs.Events.{logged_of}
-use Rattle.modem_derived.proofs.Listed.{IsDown, is_down, one_more_listed}
+use Rattle.modem_derived.proofs.Listed.{IsDown, is_down}
 use Rattle.modem_derived.proofs.passing.passed_in.Goals as goal
+use Rattle.derived_session.proofs.Listed.{one_more_listed}
 
 pub loop-port-preserved : goal.loop-port-preserved
 loop-port-preserved c =

@@ -1,8 +1,9 @@
 use Rattle.std.proofs.Common.{map}
 use Rattle.tty_calls.specs.Sessions.{session_of}
 use Rattle.modem_text.specs.Events.{logged_of}
-use Rattle.modem_derived.proofs.Listed.{AreListed, IsDown}
+use Rattle.modem_derived.proofs.Listed.{IsDown}
 use Rattle.modem_derived.proofs.passing.passed_in.Given as goal
+use Rattle.derived_session.proofs.Listed.{AreListed}
 
 abbrev pub invariant-loop-port : goal.invariant-loop-port
 invariant-loop-port l =

@@ -1,4 +1,4 @@
-use Rattle.std.proofs.Common.{◌≡◌, ◌<◌, ◌∙◌, ℕ, List, [], length, map, sym, ap, subst}
+use Rattle.std.proofs.Common.{◌≡◌, ◌<◌, ◌∙◌, ℕ, length, map, sym, ap, subst}
 use Rattle.std.specs.Prelude.{All}
 use Rattle.std.proofs.lemmas.List.{length-map}
 use Rattle.std.proofs.lemmas.Result.{IfOk-weaker}
@@ -7,12 +7,14 @@ use Rattle.tty_calls.specs.Sessions.{session_of}
 use Rattle.derived_session.specs.Steps.{derived_of, passings_of, phases_steps, scripts_in}
 use Rattle.modem_text.specs.Events.{logged_of}
 use Rattle.modem_text.specs.Sessions.{modem_session_of, part_of}
-use Rattle.modem_one.specs.Played.{derived_with, journal_on}
-use Rattle.modem_derived.specs.Blocks.{all_passed, own_of}
-use Rattle.modem_derived.proofs.Derived.{derived_are, passings_are, single_still}
+use Rattle.modem_one.specs.Played.{derived_with, all_passed}
+use Rattle.modem_derived.specs.Blocks.{own_of}
+use Rattle.modem_derived.proofs.Derived.{derived_are, passings_are}
 use Rattle.modem_derived.proofs.Listed.{on_ports, scripts_on_ports}
 use Rattle.modem_derived.proofs.sessions.derive_session.Goals as goal
 use Rattle.modem_derived.proofs.sessions.derive_session.Goals.{After-as_slice-4}
+use Rattle.passed_laws.specs.Sessions.{journal_on}
+use Rattle.passed_ports.proofs.Joining.{single_still}
 
 pub derive-requires-clause-scripts : goal.derive-requires-clause-scripts
 derive-requires-clause-scripts c =

@@ -12,4 +12,4 @@ control-requires-clause-few g c =
 pub returns-clause-ok : goal.returns-clause-ok
 returns-clause-ok g c =
     takes_own g.frame c.args.roles.now c.args.port.now c.args.desk.now c.control.new.self c.args.stand c.args.place
-    c.args.call _ c.requires.0 c.requires.1.0 c.journal-journal.ensures.port c.requires.1.1 c.in_ok-control.ensures.ok
+    c.args.call _ c.requires.0 c.requires.1.0 c.known.ensures.port c.requires.1.1 c.in_ok-control.ensures.ok

@@ -8,14 +8,14 @@ use Rattle.modem_one.specs.declared.turns.Next.TheVariants as next
 use Rattle.modem_one.proofs.Taking.{in_turn_at, can_end, ring_is, stops_with}
 use Rattle.modem_one.proofs.Between.{begins_between, asked_at, items_at, going_at}
 use Rattle.modem_one.proofs.Ending.{ends_turns}
-use Rattle.modem_one.proofs.after_line.play_after_line.Goals.{In-End, In_default}
 use Rattle.modem_one.proofs.after_line.play_after_line.Goals as goal
 
 pub next_of-next-requires : goal.next_of-next-requires
 next_of-next-requires g c =
     let h = begins_between g.frame c.args.roles.now c.args.port.now c.args.desk.now c.args.stand c.args.calls.now
     c.args.items.now c.requires.0 in (
-      asked_at g.frame c.args.roles.now c.args.port.now c.args.desk.now c.args.stand c.args.calls.now c.args.items.now h,
+      asked_at g.frame c.args.roles.now c.args.port.now c.args.desk.now c.args.stand c.args.calls.now c.args.items.now
+          h,
       (
         items_at g.frame c.args.roles.now c.args.port.now c.args.desk.now c.args.stand c.args.calls.now
             c.args.items.now h,

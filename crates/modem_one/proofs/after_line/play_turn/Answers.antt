@@ -1,6 +1,6 @@
 use Rattle.std.proofs.Common.{◌<◌, subst}
 use Rattle.std.proofs.lemmas.Result.{IfOk-weaker}
-use Rattle.modem_one.specs.AfterLine.{IsTurnOf, IsBetween, TakesTurn}
+use Rattle.modem_one.specs.AfterLine.{IsTurnOf, IsBetween, TakesNoCall}
 use Rattle.modem_one.specs.Left.{turns_left}
 use Rattle.modem_one.specs.declared.turns.Next.{Next}
 use Rattle.modem_one.proofs.Between.{between_turn, less_turn}
@@ -16,15 +16,16 @@ take_flush-requires g c = (
 pub returns-in-Flush-clause-ok : goal.returns-in-Flush-clause-ok
 returns-in-Flush-clause-ok g c =
     IfOk-weaker c.take_flush.result (λ now.
-    TakesTurn g.frame c.args.roles.now c.args.port.now c.take_flush.new.port c.args.desk.now now)
-    (λ now. IsBetween g.frame c.args.roles.now c.take_flush.new.port c.args.desk.now now c.args.calls.now c.args.items.now)
+    TakesNoCall g.frame c.args.roles.now c.args.port.now c.take_flush.new.port c.args.desk.now now)
+    (λ now. IsBetween g.frame c.args.roles.now c.take_flush.new.port c.args.desk.now now c.args.calls.now
+    c.args.items.now)
     (λ now t. between_turn g.frame c.args.roles.now c.args.port.now c.take_flush.new.port c.args.desk.now
     c.args.stand now c.args.calls.now c.args.items.now c.requires.0 t) c.take_flush.ensures.ok
 
 pub returns-in-Flush-clause-less : goal.returns-in-Flush-clause-less
 returns-in-Flush-clause-less g c =
     IfOk-weaker c.take_flush.result (λ now.
-    TakesTurn g.frame c.args.roles.now c.args.port.now c.take_flush.new.port c.args.desk.now now)
+    TakesNoCall g.frame c.args.roles.now c.args.port.now c.take_flush.new.port c.args.desk.now now)
     (λ now. turns_left c.take_flush.new.port c.args.calls.now c.args.items.now
     < turns_left c.args.port.now c.args.calls.now c.args.items.now)
     (λ now t. less_turn g.frame c.args.roles.now c.args.port.now c.take_flush.new.port c.args.calls.now c.args.items.now
@@ -61,15 +62,16 @@ tell-requires g c = (
 pub returns-in-Pass-clause-ok : goal.returns-in-Pass-clause-ok
 returns-in-Pass-clause-ok g c =
     IfOk-weaker c.take_pass.result
-    (λ now. TakesTurn g.frame c.args.roles.now c.args.port.now c.take_pass.new.port c.args.desk.now now)
-    (λ now. IsBetween g.frame c.args.roles.now c.take_pass.new.port c.args.desk.now now c.args.calls.now c.args.items.now)
+    (λ now. TakesNoCall g.frame c.args.roles.now c.args.port.now c.take_pass.new.port c.args.desk.now now)
+    (λ now. IsBetween g.frame c.args.roles.now c.take_pass.new.port c.args.desk.now now c.args.calls.now
+    c.args.items.now)
     (λ now t. between_turn g.frame c.args.roles.now c.args.port.now c.take_pass.new.port c.args.desk.now
     c.args.stand now c.args.calls.now c.args.items.now c.requires.0 t) c.take_pass.ensures.ok
 
 pub returns-in-Pass-clause-less : goal.returns-in-Pass-clause-less
 returns-in-Pass-clause-less g c =
     IfOk-weaker c.take_pass.result
-    (λ now. TakesTurn g.frame c.args.roles.now c.args.port.now c.take_pass.new.port c.args.desk.now now)
+    (λ now. TakesNoCall g.frame c.args.roles.now c.args.port.now c.take_pass.new.port c.args.desk.now now)
     (λ now. turns_left c.take_pass.new.port c.args.calls.now c.args.items.now
     < turns_left c.args.port.now c.args.calls.now c.args.items.now)
     (λ now t. less_turn g.frame c.args.roles.now c.args.port.now c.take_pass.new.port c.args.calls.now c.args.items.now

@@ -12,7 +12,7 @@ tell-requires g c =
 pub returns-clause-ok : goal.returns-clause-ok
 returns-clause-ok g c =
     between_told g.frame c.args.roles.now c.args.port.now c.args.desk.now c.tell.new.self c.args.stand
-    c.args.calls.now c.pass.new.self c.args.items.now c.args.place _ c.requires.0 c.requires.1 c.journal-journal.ensures.port
+    c.args.calls.now c.pass.new.self c.args.items.now c.args.place _ c.requires.0 c.requires.1 c.known.ensures.port
     (told_place g.frame c.args.roles.now c.args.port.now c.args.desk.now c.args.stand c.args.place
     (record { number = 0; first = 0; place = 0 }) c.requires.1) c.in_ok-tell.ensures.ok c.pass.ensures
 

@@ -15,12 +15,14 @@ pub returns-in-Some-first_of-clause-turn : goal.returns-in-Some-first_of-clause-
 returns-in-Some-first_of-clause-turn g c =
     waits_turn (port_now g.frame.first.port g.frame.session c.args.port.now) (state_at c.args.desk.now 0 [])
     c.args.port.now.terminal (role_numbers c.args.roles.now) _ _ _ _
-    (sym c.clock_is_over.ensures ∙ c.if-not-clock_is_over.false) c.first_of.ensures c.in-None.is c.first_of-in-None.ensures
+    (sym c.clock_is_over.ensures ∙ c.if-not-clock_is_over.false) c.first_of.ensures c.in-None.is
+    c.first_of-in-None.ensures
     c.in-Some-first_of.is
 
 pub returns-in-None-first_of-clause-turn : goal.returns-in-None-first_of-clause-turn
 returns-in-None-first_of-clause-turn g c =
     end_turn (port_now g.frame.first.port g.frame.session c.args.port.now) (state_at c.args.desk.now 0 [])
     c.args.port.now.terminal (role_numbers c.args.roles.now) _ _ _
-    (sym c.clock_is_over.ensures ∙ c.if-not-clock_is_over.false) c.first_of.ensures c.in-None.is c.first_of-in-None.ensures
+    (sym c.clock_is_over.ensures ∙ c.if-not-clock_is_over.false) c.first_of.ensures c.in-None.is
+    c.first_of-in-None.ensures
     c.in-None-first_of.is

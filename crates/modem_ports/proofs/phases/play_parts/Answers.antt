@@ -20,7 +20,7 @@ play_after_line-ended-requires g c =
     let begins = turns_begin g.setting c.args.roles.now c.args.at.now c.args.run c.args.calls.now c.args.items.now
     c.args.steps.now.items c.args.ticks c.play_up_to_end-played.new.port c.play_up_to_end-played.new.putter
     c.play_up_to_end-played.new.line c.in_ok-run.run' c.requires c.in_ok-run.ensures.ok
-    c.journal-journal.ensures.port in
+    c.known.ensures.port in
     (begins.0, begins.1)
 
 pub returns-in_err-run-clause-err : goal.returns-in_err-run-clause-err
@@ -36,7 +36,7 @@ returns-in_err-run-clause-err g c =
     rw (p.1, p.2)
     (line_stops c.in_err-run.field-0.0 g.setting c.args.roles.now at c.args.run c.args.calls.now c.args.items.now
     c.args.steps.now.items c.args.ticks left new.port new.putter new.line
-    c.requires c.in_err-run.ensures.err c.in_err-run.ensures.open c.journal-journal.ensures.port refl refl refl refl)
+    c.requires c.in_err-run.ensures.err c.in_err-run.ensures.open c.known.ensures.port refl refl refl refl)
 
 pub returns-clause-ok : goal.returns-clause-ok
 returns-clause-ok g c =
@@ -80,5 +80,6 @@ returns-clause-err g c =
     (λ d. IsStoppedBy d g.setting.first g.setting.session left) (new.putter ≡ line.putter)
     c.play_after_line-ended.result c.play_after_line-ended.ensures.err c.play_after_line-ended.ensures.putter
     (λ d stops same. turns_stop d g.setting c.args.roles.now at c.args.run c.args.calls.now c.args.items.now
-    c.args.steps.now.items c.args.ticks line.port line.putter line.line c.in_ok-run.run' left new.port new.putter new.desk
+    c.args.steps.now.items c.args.ticks line.port line.putter line.line c.in_ok-run.run' left new.port new.putter
+    new.desk
     c.requires c.in_ok-run.ensures.ok stops same c.journal-end.ensures.port refl refl refl refl)

@@ -4,10 +4,10 @@ use Rattle.std.specs.Vec.{with_items}
 use Rattle.std.proofs.lemmas.List.{with_items_is}
 use Rattle.tty_calls.specs.declared.sessions.Script.{Script}
 use Rattle.tty_calls.specs.Sessions.{PlainSession, session_of, script_of, line_on, ticks_on}
-use Rattle.journal_check.specs.Legal.{phase_at}
-use Rattle.one_thread.specs.Casting.{AreNumbered, HaveSameCallers, cast_of}
-use Rattle.one_thread.specs.Roles.{scene_of, role_in}
-use Rattle.one_thread.specs.declared.roles.Role.{Role}
+use Rattle.legal_runs.specs.Legal.{phase_at}
+use Rattle.play_base.specs.Casting.{AreNumbered, HaveSameCallers, cast_of}
+use Rattle.play_base.specs.Roles.{scene_of, role_in}
+use Rattle.play_base.specs.declared.roles.Role.{Role}
 use Rattle.calls_left.specs.Remaining.{calls_of_port}
 use Rattle.modem_text.specs.declared.sessions.ModemPart.{ModemPart}
 use Rattle.modem_text.specs.Sessions.{modem_session_of, step_of}
@@ -111,7 +111,8 @@ play_parts-requires g c =
     c.of-items.result c.steps_of.result.now.items c.ticks_of.result)
     (sym c.requires.0)
     (begins_phase p k c.args.run kept base at then_at steps roles c.in_ok-calls.calls c.of-items.result
-    c.steps_of.result.now.items c.ticks_of.result c.requires.1.0 c.requires.1.1.0 c.requires.1.1.1.0 c.requires.1.1.1.1.0
+    c.steps_of.result.now.items c.ticks_of.result c.requires.1.0 c.requires.1.1.0 c.requires.1.1.1.0
+    c.requires.1.1.1.1.0
     h next
     (subst (λ (ss : List Script).
     (others : List Script)

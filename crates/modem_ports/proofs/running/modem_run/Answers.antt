@@ -4,10 +4,10 @@ use Rattle.tty_calls.specs.Sessions.{PlainSession, session_of}
 use Rattle.passed_calls.specs.Within.{ArePassedWithin}
 use Rattle.modem_text.specs.Events.{ModemLog, logged_of}
 use Rattle.modem_text.specs.Sessions.{modem_session_of}
-use Rattle.modem_one.specs.Played.{AreModemsPlayed, derived_with, journal_on}
-use Rattle.modem_derived.specs.Blocks.{all_passed}
+use Rattle.modem_one.specs.Played.{AreModemsPlayed, derived_with, all_passed}
 use Rattle.modem_ports.proofs.Joining.{all_played, all_within}
 use Rattle.modem_ports.proofs.running.modem_run.Goals as goal
+use Rattle.passed_laws.specs.Sessions.{journal_on}
 
 pub derive_session-requires-clause-passed : goal.derive_session-requires-clause-passed
 derive_session-requires-clause-passed c =

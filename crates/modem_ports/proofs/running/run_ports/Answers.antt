@@ -5,8 +5,8 @@ use Rattle.passed_calls.specs.declared.logs.Logged.{Logged}
 use Rattle.modem_text.specs.declared.logs.ModemEvent.{ModemEvent as KeptEvent}
 use Rattle.modem_text.specs.Events.{logged_of}
 use Rattle.modem_text.specs.Sessions.{modem_session_of}
-use Rattle.modem_ports.specs.Ports.{AreFirstPlayed}
-use Rattle.modem_ports.proofs.Joining.{nothing_played, port_more}
+use Rattle.modem_ports.specs.Ports.{AreFirstPlayed, IsPortPlayed}
+use Rattle.passed_ports.proofs.Joining.{nothing_played, port_more}
 use Rattle.modem_ports.proofs.running.run_ports.Goals as goal
 
 pub loop-number-init : goal.loop-number-init
@@ -27,7 +27,7 @@ loop-number-init c =
           (subst (λ (xs : List PortEnd). AreFirstPlayed session 0 (map logged_of c.new-log.result.items) [] xs)
           (sym ends)
           (subst (λ (ls : List (Logged KeptEvent)). AreFirstPlayed session 0 (map logged_of ls) [] [])
-          (sym c.new-log.ensures.items) (nothing_played session)));
+          (sym c.new-log.ensures.items) (nothing_played (λ p log run end. IsPortPlayed p session log run end))));
     }
 
 pub loop-number-preserved : goal.loop-number-preserved
@@ -42,7 +42,8 @@ loop-number-preserved c =
     record {
       room_for_runs = let room = invariant.room_for_runs in omega (arith, room, runs, below);
       room_for_ends = let room = invariant.room_for_ends in omega (arith, room, ends, below);
-      played = port_more session at.number at.log.items played.log.items c.add_log.new.log.items at.runs.items
+      played = port_more (λ p log run end. IsPortPlayed p session log run end) logged_of at.number at.log.items
+          played.log.items c.add_log.new.log.items at.runs.items
           c.add.new.self.items at.ends.items c.add-in-loop-number.new.self.items played.run played.end invariant.played
           c.in_ok-played.ensures.played c.in_ok-played.ensures.own
           c.in_ok-add_log.ensures (ap (λ b. b.items) c.add.ensures) (ap (λ b. b.items) c.add-in-loop-number.ensures);

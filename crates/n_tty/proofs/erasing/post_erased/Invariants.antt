@@ -1,4 +1,5 @@
 use Rattle.std.proofs.Common.{◌≡◌, ◌+◌, ◌-◌, ◌*◌, ◌≤◌, true, length, take, drop}
+use Rattle.tty_base.specs.Sizes.{COLUMNS_OF_BYTE}
 use Rattle.flow_control.specs.Output.{has_room, after_send}
 use Rattle.n_tty.specs.Editing.{echo_of_gone}
 use Rattle.n_tty.specs.Posting.{column_past_text}
@@ -18,7 +19,7 @@ invariant-loop-i l = record {
   room : has_room l.wire
       (echo_of_gone l.modes l.kind l.start (take l.from l.edit) (drop l.from (take l.i l.edit))) ≡ true;
   spare : 8 * (l.i - l.from) ≤ l.wire.spare;
-  bound : l.out ≤ l.fn.out + 64 * (length l.edit - l.i);
+  bound : l.out ≤ l.fn.out + COLUMNS_OF_BYTE * (length l.edit - l.i);
 }
 
 abbrev pub decreases-loop-i : goal.decreases-loop-i

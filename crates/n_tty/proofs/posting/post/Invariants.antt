@@ -1,4 +1,5 @@
 use Rattle.std.proofs.Common.{◌≡◌, ◌+◌, ◌*◌, ◌≤◌, true, length, drop}
+use Rattle.tty_base.specs.Sizes.{COLUMNS_OF_BYTE}
 use Rattle.flow_control.specs.Output.{has_room, after_send}
 use Rattle.n_tty.specs.Posting.{column_past_text, all_posted_bytes}
 use Rattle.n_tty.proofs.posting.post.Given as goal
@@ -11,5 +12,5 @@ invariant-loop-byte l = record {
       ≡ after_send l.fn.wire (all_posted_bytes l.modes l.fn.out l.bytes);
   room : has_room l.wire (all_posted_bytes l.modes l.out (drop l.byte-index l.bytes)) ≡ true;
   spare : length (all_posted_bytes l.modes l.out (drop l.byte-index l.bytes)) ≤ l.wire.spare;
-  bound : l.out ≤ l.fn.out + 64 * l.byte-index;
+  bound : l.out ≤ l.fn.out + COLUMNS_OF_BYTE * l.byte-index;
 }

@@ -1,4 +1,5 @@
 use Rattle.std.proofs.Common.{◌≡◌, ◌+◌, ◌-◌, ◌*◌, ◌≤◌, length, take, drop}
+use Rattle.tty_base.specs.Sizes.{COLUMNS_OF_BYTE}
 use Rattle.flow_control.specs.Output.{after_send}
 use Rattle.n_tty.specs.Posting.{column_past_text, all_posted_bytes}
 use Rattle.n_tty.specs.Writing.{fitting_count}
@@ -13,7 +14,7 @@ invariant-loop-count l = record {
   column : l.out ≡ column_past_text l.modes l.fn.out (all_posted_bytes l.modes l.fn.out (take l.count l.bytes));
   wire : l.wire ≡ after_send l.fn.wire (all_posted_bytes l.modes l.fn.out (take l.count l.bytes));
   spare : l.fn.wire.spare ≤ l.wire.spare + 8 * l.count;
-  bound : l.out ≤ l.fn.out + 64 * l.count;
+  bound : l.out ≤ l.fn.out + COLUMNS_OF_BYTE * l.count;
 }
 
 abbrev pub decreases-loop-count : goal.decreases-loop-count

@@ -2,7 +2,7 @@ use Rattle.std.proofs.Common.{◌≡◌, Bool, None, ◌∙◌, sym, subst}
 use Rattle.std.proofs.lemmas.Bool.{false≢true}
 use Rattle.std.proofs.lemmas.Result.{err_from_is_err_and, IfOk-weaker, IfErr-weaker}
 use Rattle.port_core.specs.Ports.{Denies}
-use Rattle.one_thread.specs.Order.{is_of_consoles}
+use Rattle.one_order.specs.Order.{is_of_consoles}
 use Rattle.one_thread.specs.Turns.{role_numbers, IsTurn}
 use Rattle.one_thread.specs.Stages.{EndsAfterLine, StopsAfterLine}
 use Rattle.one_thread.specs.Acts.{PlaysEnd}
@@ -18,13 +18,13 @@ pub turn_of-next-requires-clause-known : goal.turn_of-next-requires-clause-known
 turn_of-next-requires-clause-known g c =
     all_known g.scene c.args.scripts.now c.args.roles.now c.args.port.now _
     (begins g.scene c.args.scripts.now c.args.roles.now c.args.port.now c.args.ticks c.args.run
-    c.requires.0 c.requires.1.0 c.journal-journal.ensures.port).plays
+    c.requires.0 c.requires.1.0 c.known.ensures.port).plays
 
 pub loop-next-init : goal.loop-next-init
 loop-next-init g c =
     record {
       playing = begins g.scene c.args.scripts.now c.args.roles.now c.args.port.now c.args.ticks c.args.run
-          c.requires.0 c.requires.1.0 c.journal-journal.ensures.port;
+          c.requires.0 c.requires.1.0 c.known.ensures.port;
       turn = subst (λ (b : Bool). IsTurn b c.args.port.now (role_numbers c.args.roles.now) None c.turn_of-next.result)
           c.requires.1.1.1.1 c.turn_of-next.ensures;
     }

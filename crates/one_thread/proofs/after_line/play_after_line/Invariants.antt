@@ -1,5 +1,6 @@
 use Rattle.std.proofs.Common.{◌-◌, length}
-use Rattle.one_thread.specs.Order.{is_of_consoles}
+use Rattle.tty_base.specs.Sizes.{MOST_ENTRIES}
+use Rattle.one_order.specs.Order.{is_of_consoles}
 use Rattle.one_thread.specs.Turns.{role_numbers, IsTurn}
 use Rattle.one_thread.specs.Acts.{Playing}
 use Rattle.one_thread.proofs.after_line.play_after_line.Given as goal
@@ -15,4 +16,4 @@ invariant-loop-next g l =
     }
 
 abbrev pub decreases-loop-next : goal.decreases-loop-next
-decreases-loop-next g l = 4194304 - length l.port.journal
+decreases-loop-next g l = MOST_ENTRIES - length l.port.journal

@@ -2,14 +2,14 @@ use Rattle.std.proofs.Common.{arith}
 use Rattle.std.proofs.lemmas.Result.{err_from_is_err_and}
 use Rattle.tty_base.specs.Characters.{good_characters}
 use Rattle.one_thread.proofs.LineFlushes.{given_once, given_denied}
-use Rattle.one_thread.proofs.LineWindows.{AcceptsWindow, window_given, window_denied}
+use Rattle.one_thread.proofs.LineWindows.{ReceivesWindow, window_given, window_denied}
 use Rattle.one_thread.proofs.line.give_window.Goals as goal
 
 pub returns-in_err-flushed-clause-err : goal.returns-in_err-flushed-clause-err
 returns-in_err-flushed-clause-err c =
     let p = err_from_is_err_and c.from_residual.result c.from_residual.ensures.1 in
-    let a = c.accept_window.ensures in
-    let accepts : AcceptsWindow c.args.line.now c.accept_window.new.self c.args.window.now =
+    let a = c.receive_window.ensures in
+    let accepts : ReceivesWindow c.args.line.now c.receive_window.new.self c.args.window.now =
     record {
       some = omega arith;
       done = a.done;
@@ -21,14 +21,14 @@ returns-in_err-flushed-clause-err c =
       within = a.within;
     } in
     let w = c.flush_given.new in
-    rw (p.1, p.2) (window_denied c.args.port.now c.args.putter.now c.args.line.now c.accept_window.new.self
+    rw (p.1, p.2) (window_denied c.args.port.now c.args.putter.now c.args.line.now c.receive_window.new.self
     c.args.window.now c.args.run accepts c.requires.put
     c.in_err-flushed.field-0.0 w.self w.putter c.in_err-flushed.ensures.err)
 
 pub returns-clause-ok : goal.returns-clause-ok
 returns-clause-ok c =
-    let a = c.accept_window.ensures in
-    let accepts : AcceptsWindow c.args.line.now c.accept_window.new.self c.args.window.now =
+    let a = c.receive_window.ensures in
+    let accepts : ReceivesWindow c.args.line.now c.receive_window.new.self c.args.window.now =
     record {
       some = omega arith;
       done = a.done;
@@ -40,9 +40,9 @@ returns-clause-ok c =
       within = a.within;
     } in
     let w = c.flush_given.new in
-    rw c.run_after.ensures (window_given c.args.port.now c.args.putter.now c.args.line.now c.accept_window.new.self
+    rw c.run_after.ensures (window_given c.args.port.now c.args.putter.now c.args.line.now c.receive_window.new.self
     c.args.window.now c.args.run accepts c.requires.put
-    w.self w.putter c.in_ok-flushed.flushed c.journal-journal.ensures.port c.numbers_tell.ensures.taken (omega arith)
+    w.self w.putter c.in_ok-flushed.flushed c.known.ensures.port c.known.ensures.taken (omega arith)
     c.in_ok-flushed.ensures.ok)
 
 pub returns-in_err-flushed-clause-flushes : goal.returns-in_err-flushed-clause-flushes

@@ -1,6 +1,6 @@
 use Rattle.std.proofs.Common.{[], subst, sym, append-nil}
 use Rattle.std.proofs.lemmas.Result.{err_from_is_err_and}
-use Rattle.one_thread.specs.Stages.{HasAnyOrder}
+use Rattle.play_base.specs.Scenes.{HasAnyOrder}
 use Rattle.one_thread.specs.Lines.{StopsLineIn}
 use Rattle.one_thread.specs.LineInside.{steps_of}
 use Rattle.one_thread.proofs.LineEnds.{start_of, stands_at_start, plays_all, stops_all, stops_denied, line_ends}
@@ -13,7 +13,7 @@ play_steps-requires-clause-stands c =
     let h = c.requires.begins in
     let v = c.args.port.now in
     stands_at_start h.scene v c.args.putter.now c.meet.new.putter c.args.line.now c.args.run h.begins
-    h.within c.numbers_tell.ensures.taken c.meet.ensures.putter
+    h.within c.known.ensures.taken c.meet.ensures.putter
     c.args.steps.now.items h.steps_are c.meet.new.self c.meet.ensures.port
     (room_for_line h.scene v.terminal.phase v c.args.putter.now c.args.line.now c.args.run
     c.args.steps.now.items h.begins h.within h.steps_are)
@@ -27,7 +27,7 @@ returns-in_err-next-clause-err c =
     c.args.putter.now w.putter c.args.line.now w.line c.args.run
     (λ h.
     stops_all h.scene c.args.port.now c.args.putter.now c.meet.new.putter c.args.line.now c.args.run h.begins
-    h.within c.numbers_tell.ensures.taken c.meet.ensures.putter
+    h.within c.known.ensures.taken c.meet.ensures.putter
     c.args.steps.now.items h.steps_are c.meet.new.self c.meet.ensures.port c.in_err-next.field-0.0
     w.port w.putter w.line c.in_err-next.ensures.err))
 
@@ -36,7 +36,7 @@ line_end-requires-clause-not_over c =
     let h = c.requires.begins in
     let w = c.play_steps.new in
     let last = plays_all h.scene c.args.port.now c.args.putter.now c.meet.new.putter c.args.line.now c.args.run h.begins
-    h.within c.numbers_tell.ensures.taken c.meet.ensures.putter
+    h.within c.known.ensures.taken c.meet.ensures.putter
     c.args.steps.now.items h.steps_are c.meet.new.self c.meet.ensures.port w.port
     w.putter w.line c.in_ok-next.next c.in_ok-next.ensures.ok in
     last.in_line.line_over
@@ -46,7 +46,7 @@ line_end-requires-clause-ring c =
     let h = c.requires.begins in
     let w = c.play_steps.new in
     let last = plays_all h.scene c.args.port.now c.args.putter.now c.meet.new.putter c.args.line.now c.args.run h.begins
-    h.within c.numbers_tell.ensures.taken c.meet.ensures.putter
+    h.within c.known.ensures.taken c.meet.ensures.putter
     c.args.steps.now.items h.steps_are c.meet.new.self c.meet.ensures.port w.port
     w.putter w.line c.in_ok-next.next c.in_ok-next.ensures.ok in
     last.in_line.has_put.ring
@@ -56,7 +56,7 @@ line_end-requires-clause-sent c =
     let h = c.requires.begins in
     let w = c.play_steps.new in
     let last = plays_all h.scene c.args.port.now c.args.putter.now c.meet.new.putter c.args.line.now c.args.run h.begins
-    h.within c.numbers_tell.ensures.taken c.meet.ensures.putter
+    h.within c.known.ensures.taken c.meet.ensures.putter
     c.args.steps.now.items h.steps_are c.meet.new.self c.meet.ensures.port w.port
     w.putter w.line c.in_ok-next.next c.in_ok-next.ensures.ok in
     last.in_line.sent
@@ -71,7 +71,7 @@ returns-in_err-line_end-clause-err c =
     (λ h.
     let b = start_of h.scene c.args.port.now c.args.line.now in
     let last = plays_all h.scene c.args.port.now c.args.putter.now c.meet.new.putter c.args.line.now c.args.run h.begins
-    h.within c.numbers_tell.ensures.taken c.meet.ensures.putter
+    h.within c.known.ensures.taken c.meet.ensures.putter
     c.args.steps.now.items h.steps_are c.meet.new.self c.meet.ensures.port w.port
     w.putter w.line c.in_ok-next.next c.in_ok-next.ensures.ok in
     subst (λ q. StopsLineIn HasAnyOrder c.in_err-line_end.field-0.0 h.scene c.args.port.now.terminal.phase
@@ -88,8 +88,8 @@ returns-clause-ok c =
     (λ h.
     let b = start_of h.scene c.args.port.now c.args.line.now in
     let last = plays_all h.scene c.args.port.now c.args.putter.now c.meet.new.putter c.args.line.now c.args.run h.begins
-    h.within c.numbers_tell.ensures.taken c.meet.ensures.putter
+    h.within c.known.ensures.taken c.meet.ensures.putter
     c.args.steps.now.items h.steps_are c.meet.new.self c.meet.ensures.port w.port
     w.putter w.line c.in_ok-next.next c.in_ok-next.ensures.ok in
     line_ends b w.port c.line_end.new.self w.putter c.line_end.new.putter w.line c.in_ok-next.next last
-    c.journal-journal.ensures.port c.in_ok-line_end.ensures.ok)
+    c.known-2.ensures.port c.in_ok-line_end.ensures.ok)

@@ -1,10 +1,10 @@
 use Rattle.std.proofs.Common.{◌≡◌, ◌+◌, map, sym, ap, ◌∙◌, subst}
 use Rattle.std.proofs.lemmas.Result.{err_from_is_err_and, IfOk-weaker}
 use Rattle.tty_calls.specs.Sessions.{ticks_on}
-use Rattle.journal_check.specs.Legal.{phase_at}
-use Rattle.one_thread.specs.Roles.{role_in, AreRolesOf}
-use Rattle.one_thread.specs.Lines.{IsAtPhase}
-use Rattle.one_thread.specs.Phases.{HavePlayedInOrder, StopsFull}
+use Rattle.legal_runs.specs.Legal.{phase_at}
+use Rattle.play_base.specs.Roles.{role_in, AreRolesOf}
+use Rattle.play_base.specs.Beginning.{IsAtPhase}
+use Rattle.play_base.specs.Phases.{HavePlayedInOrder, StopsFull}
 use Rattle.one_thread.specs.Stages.{EndsAfterLine, StopsAfterLine}
 use Rattle.one_thread.proofs.Orders.{any_line}
 use Rattle.one_thread.proofs.StationLemmas.{stopped_in_line, stopped_after_line, err_with, at_next_phase, played_phase}

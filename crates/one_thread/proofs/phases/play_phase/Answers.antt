@@ -2,11 +2,11 @@ use Rattle.std.proofs.Common.{◌≡◌, ◌+◌, ◌<◌, ℕ, List, length, ma
 use Rattle.std.specs.Prelude.{All}
 use Rattle.std.specs.Vec.{with_items}
 use Rattle.std.proofs.lemmas.List.{with_items_is}
-use Rattle.one_thread.specs.Roles.{PlainRole, role_in, AreFirstSteps}
-use Rattle.one_thread.specs.Casting.{steps_after}
-use Rattle.one_thread.specs.Lines.{IsAtPhase}
-use Rattle.one_thread.specs.Phases.{HavePlayedInOrder}
-use Rattle.one_thread.proofs.RoleLemmas.{cast_in, roles_in_scene, roles_within, roles_few, moved_on}
+use Rattle.play_base.specs.Roles.{PlainRole, role_in, AreFirstSteps}
+use Rattle.play_base.specs.Casting.{steps_after}
+use Rattle.play_base.specs.Beginning.{IsAtPhase}
+use Rattle.play_base.specs.Phases.{HavePlayedInOrder}
+use Rattle.play_base.proofs.RoleLemmas.{cast_in, roles_in_scene, roles_within, roles_few, moved_on}
 use Rattle.one_thread.proofs.phases.play_phase.Goals as goal
 
 pub move_on-requires-clause-within : goal.move_on-requires-clause-within

@@ -2,9 +2,9 @@ use Rattle.std.proofs.Common.{◌≡◌, ◌+◌, List, [], ◌∷◌, ◌++◌,
 use Rattle.tty_calls.specs.declared.answers.PortEnd.{PortEnd}
 use Rattle.tty_calls.specs.declared.journals.PortRun.{PortRun}
 use Rattle.tty_calls.specs.Sessions.{session_of}
-use Rattle.one_thread.specs.Phases.{AreFirstPlayed}
-use Rattle.one_thread.specs.Played.{AreInOneOrder}
-use Rattle.one_thread.proofs.PortLemmas.{one_more_played, none_played, all_played, one_more_in_order, none_in_order}
+use Rattle.play_base.specs.Phases.{AreFirstPlayed}
+use Rattle.play_base.specs.Played.{AreInOneOrder}
+use Rattle.play_base.proofs.PortLemmas.{one_more_played, none_played, all_played, one_more_in_order, none_in_order}
 use Rattle.one_thread.proofs.playing.play.Goals as goal
 
 pub loop-number-init : goal.loop-number-init

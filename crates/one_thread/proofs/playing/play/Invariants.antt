@@ -1,7 +1,7 @@
 use Rattle.std.proofs.Common.{◌≤◌, ◌+◌}
 use Rattle.tty_calls.specs.Sessions.{session_of}
-use Rattle.one_thread.specs.Phases.{AreFirstPlayed}
-use Rattle.one_thread.specs.Played.{AreInOneOrder}
+use Rattle.play_base.specs.Phases.{AreFirstPlayed}
+use Rattle.play_base.specs.Played.{AreInOneOrder}
 use Rattle.one_thread.proofs.playing.play.Given as goal
 
 abbrev pub invariant-loop-number : goal.invariant-loop-number

@@ -1,5 +1,5 @@
-use Rattle.one_thread.specs.Roles.{scene_of}
-use Rattle.one_thread.specs.Phases.{IsBeforePhase}
+use Rattle.play_base.specs.Roles.{scene_of}
+use Rattle.play_base.specs.Phases.{IsBeforePhase}
 use Rattle.one_thread.proofs.ports.play_phases.Given as goal
 
 abbrev pub ghost-play_phase : goal.ghost-play_phase

@@ -1,9 +1,9 @@
 use Rattle.std.proofs.Common.{subst}
 use Rattle.tty_calls.specs.declared.answers.Denied.{Denied}
 use Rattle.tty_calls.specs.declared.answers.Denied.TheVariants.{Full}
-use Rattle.one_thread.specs.Roles.{scene_of}
-use Rattle.one_thread.specs.Phases.{IsStopped}
-use Rattle.one_thread.proofs.PortLemmas.{phases_over, at_end_of, port_of_scene, full_in_order}
+use Rattle.play_base.specs.Roles.{scene_of}
+use Rattle.play_base.specs.Phases.{IsStopped}
+use Rattle.play_base.proofs.PortLemmas.{phases_over, at_end_of, port_of_scene, full_in_order}
 use Rattle.one_thread.proofs.ports.play_port.Goals as goal
 
 pub hang_up-requires-clause-after : goal.hang_up-requires-clause-after

@@ -1,4 +1,4 @@
-use Rattle.std.proofs.Common.{◌≤◌, ◌<◌, length, arith}
+use Rattle.std.proofs.Common.{length, arith}
 use Rattle.passed_ports.proofs.Noting.{noted_more, all_noted}
 use Rattle.passed_ports.proofs.callers.take_steps.Goals as goal
 

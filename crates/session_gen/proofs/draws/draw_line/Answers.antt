@@ -7,7 +7,8 @@ use Rattle.session_gen.proofs.draws.draw_line.Goals as goal
 
 pub loop-init : goal.loop-init
 loop-init c =
-    let items : c.reserve.new.self.items ≡ [] = c.in_ok-reserve.ensures.items ∙ ap (λ b. b.items) c.new-bytes.ensures in (
+    let items : c.reserve.new.self.items ≡ [] = c.in_ok-reserve.ensures.items
+    ∙ ap (λ b. b.items) c.new-bytes.ensures in (
       omega (arith, c.in_ok-reserve.ensures.ok),
       λ seed first e. subst (λ xs. IsBegun seed first 0 c.args.number.now (map rx xs)) (sym items)
           (IsBegun-none seed first c.args.number.now e),

@@ -1,4 +1,5 @@
 use Rattle.std.proofs.Common.{refl, arith, true, ◌≡◌, subst}
+use Rattle.tty_base.specs.Sizes.{LAST_HANDLE, MOST_ASKED}
 use Rattle.session_text.specs.declared.verbs.Verb.TheVariants.{Call}
 use Rattle.session_text.specs.declared.verbs.CallVerb.{CallVerb}
 use Rattle.session_text.specs.declared.verbs.CallVerb.TheVariants.{Read, SetDisc}
@@ -8,7 +9,7 @@ use Rattle.session_text.proofs.calls.call_of.Goals as goal
 
 pub overflow_cast-h : goal.overflow_cast-h
 overflow_cast-h c =
-    let small = good_number c.args.ports (Call c.args.verb) c.args.arguments.now 0 0 31 c.requires.good refl in
+    let small = good_number c.args.ports (Call c.args.verb) c.args.arguments.now 0 0 LAST_HANDLE c.requires.good refl in
     omega (arith, small, c.first_number-h.ensures)
 
 pub overflow_cast-result : goal.overflow_cast-result
@@ -16,7 +17,7 @@ overflow_cast-result c =
     let words = c.args.arguments.now in
     let good : is_good c.args.ports (Call Read) words ≡ true =
     subst (λ (v : CallVerb). is_good c.args.ports (Call v) words ≡ true) c.in-Read.is c.requires.good in
-    let small = good_number c.args.ports (Call Read) words 1 1 65536 good refl in
+    let small = good_number c.args.ports (Call Read) words 1 1 MOST_ASKED good refl in
     omega (arith, small, c.second_of.ensures)
 
 pub overflow_cast-result-in-SetDisc : goal.overflow_cast-result-in-SetDisc
@@ -32,7 +33,7 @@ second_of-requires c =
     let words = c.args.arguments.now in
     let good : is_good c.args.ports (Call Read) words ≡ true =
     subst (λ (v : CallVerb). is_good c.args.ports (Call v) words ≡ true) c.in-Read.is c.requires.good in
-    second_is_number c.args.ports (Call Read) words 1 65536 good refl refl
+    second_is_number c.args.ports (Call Read) words 1 MOST_ASKED good refl refl
 
 pub second_of-requires-in-SetDisc : goal.second_of-requires-in-SetDisc
 second_of-requires-in-SetDisc c =

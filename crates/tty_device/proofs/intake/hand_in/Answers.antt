@@ -1,22 +1,22 @@
 use Rattle.std.proofs.Common.{◌≡◌, ◌≤◌, ◌<◌, ◌^◌, refl, sym, ap, subst, arith}
 use Rattle.tty_device.specs.Inside.{line_of}
-use Rattle.tty_device.specs.Lines.{LineState}
+use Rattle.tty_device.specs.Lines.{PutEnd}
 use Rattle.tty_device.proofs.TakingIn.{puts_from, puts_all, handed_straight}
 use Rattle.tty_device.proofs.intake.hand_in.Goals as goal
 
 pub returns-then-is_clear : goal.returns-then-is_clear
 returns-then-is_clear c =
     let a = c.line.inside in
-    let w : LineState = line_of a in
-    let m : LineState = line_of (record a { input = c.give.new.input }) in
+    let w : PutEnd = line_of a in
+    let m : PutEnd = line_of (record a { input = c.give.new.input }) in
     let bytes = c.args.bytes.now in
     let received = c.receive_good-received in
-    let old : LineState = c.args.line.now in
+    let old : PutEnd = c.args.line.now in
     let after : w ≡ record old { known = w.known } =
-    subst (λ (x : LineState). x ≡ record old { known = x.known }) (sym c.line.view_is) c.waiting.ensures.after in
+    subst (λ (x : PutEnd). x ≡ record old { known = x.known }) (sym c.line.view_is) c.waiting.ensures.after in
     let rises : old.known ≤ w.known =
-    subst (λ (x : LineState). old.known ≤ x.known) (sym c.line.view_is) c.waiting.ensures.known in
-    let same = ap (λ (x : LineState). x.overruns) c.line.view_is in
+    subst (λ (x : PutEnd). old.known ≤ x.known) (sym c.line.view_is) c.waiting.ensures.known in
+    let same = ap (λ (x : PutEnd). x.overruns) c.line.view_is in
     let small : w.overruns < 2 ^ 64 = omega (arith, c.overruns-most.ensures, c.overruns-most.type_inv, same) in
     record {
       puts = puts_from old w m c.args.flag bytes _ after rises

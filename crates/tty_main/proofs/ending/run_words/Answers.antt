@@ -1,7 +1,6 @@
 use Rattle.std.proofs.Common.{◌≡◌, ℕ, sym, ap, subst}
 use Rattle.std.specs.Prelude.{option_map}
 use Rattle.tty_calls.specs.Sessions.{session_of}
-use Rattle.std.specs.Process.{exit_status}
 use Rattle.tty_one.specs.Endings.{texts_of}
 use Rattle.tty_one.specs.Reported.{returned}
 use Rattle.tty_main.specs.Ended.{IsEnded}

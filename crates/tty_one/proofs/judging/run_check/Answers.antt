@@ -1,4 +1,5 @@
 use Rattle.std.proofs.Common.{◌≤◌, length, ap, subst, arith}
+use Rattle.tty_base.specs.Sizes.{MOST_TEXT}
 use Rattle.check_text.specs.Reading.{refusal}
 use Rattle.tty_one.specs.declared.words.Command.TheVariants.{Check}
 use Rattle.tty_one.specs.Endings.{IsShort}
@@ -9,7 +10,7 @@ use Rattle.tty_one.proofs.judging.run_check.Goals as goal
 
 pub judged_text-requires : goal.judged_text-requires
 judged_text-requires g c =
-    let few : length c.in-Of.text.items ≤ 4194304 = subst IsShortText c.in-Of.is c.in_ok-text.ensures.few in
+    let few : length c.in-Of.text.items ≤ MOST_TEXT = subst IsShortText c.in-Of.is c.in_ok-text.ensures.few in
     omega (arith, few, ap length c.as_slice.ensures)
 
 pub returns-in_err-ending-in-Of-clause-short : goal.returns-in_err-ending-in-Of-clause-short

@@ -1,4 +1,5 @@
 use Rattle.std.proofs.Common.{◌≤◌, length, ap, subst, arith}
+use Rattle.tty_base.specs.Sizes.{MOST_TEXT}
 use Rattle.tty_one.specs.declared.words.Command.TheVariants.{Jobs}
 use Rattle.tty_one.specs.Processes.{processes_refusal}
 use Rattle.tty_one.specs.Endings.{IsShort}
@@ -9,7 +10,7 @@ use Rattle.tty_one.proofs.processes.run_jobs.Goals as goal
 
 pub work_on_text-requires : goal.work_on_text-requires
 work_on_text-requires g c =
-    let few : length c.in-Of.text.items ≤ 4194304 = subst IsShortText c.in-Of.is c.in_ok-text.ensures.few in
+    let few : length c.in-Of.text.items ≤ MOST_TEXT = subst IsShortText c.in-Of.is c.in_ok-text.ensures.few in
     omega (arith, few, ap length c.as_slice.ensures)
 
 pub returns-in-Of-clause-from : goal.returns-in-Of-clause-from

@@ -7,7 +7,8 @@ use Rattle.tty_one.specs.Outcome.{breaks_words, WasGivenFront}
 use Rattle.tty_one.specs.Works.{brought}
 use Rattle.tty_one.proofs.Outcomes.{nothing_told, nothing_by, no_entries, no_log, no_modem_log, no_session}
 use Rattle.tty_one.proofs.Outcomes.{none_derived, completes_consoles, completes_modem_lines, not_modem_lines}
-use Rattle.tty_one.proofs.Outcomes.{not_one_modem, completes_processes, not_consoles, not_one_vt, not_processes, one_of_consoles}
+use Rattle.tty_one.proofs.Outcomes.{not_one_modem, completes_processes, not_consoles, not_one_vt, not_processes}
+use Rattle.tty_one.proofs.Outcomes.{one_of_consoles}
 use Rattle.tty_one.proofs.Outcomes.{not_one_jobs, nothing_read, broken, done_by, refused_by, illegal_by}
 use Rattle.tty_one.proofs.Outcomes.{told_by, took_by, long_by, completes, judged, made, none_judged}
 use Rattle.tty_one.proofs.Outcomes.{unasked, unjudged, unmade, one_reads, reads_nothing, work_with}
@@ -92,7 +93,8 @@ pub returns-in-Ok-clause-complete : goal.returns-in-Ok-clause-complete
 returns-in-Ok-clause-complete g c =
     let done = work_with c.in-Some.command (g.S.Source.left c.args.source.now) c.in-Ok.work.ending c.tell-in-Ok.result
     c.in-Ok.work c.tell-in-Ok.ensures.back c.in-Ok.ensures.work in
-    completes (AreRunOne (texts_of c.args.words.now)) (texts_of c.args.words.now) c.in-Some.command (g.S.Source.left c.args.source.now)
+    completes (AreRunOne (texts_of c.args.words.now)) (texts_of c.args.words.now) c.in-Some.command
+    (g.S.Source.left c.args.source.now)
     (g.S.Source.left c.work_on.new.source) (g.S.Source.faults c.args.source.now)
     (g.S.Source.faults c.work_on.new.source) (returned c.tell-in-Ok.result) c.in-Ok.work.ending
     c.tell-in-Ok.result.status inr c.in-Some.ensures.known.1 c.tell-in-Ok.ensures.status
@@ -132,7 +134,8 @@ pub returns-in-Ok-clause-consoles : goal.returns-in-Ok-clause-consoles
 returns-in-Ok-clause-consoles g c =
     let done = work_with c.in-Some.command (g.S.Source.left c.args.source.now) c.in-Ok.work.ending c.tell-in-Ok.result
     c.in-Ok.work c.tell-in-Ok.ensures.back c.in-Ok.ensures.work in
-    completes_consoles (AskVtOne (texts_of c.args.words.now)) (texts_of c.args.words.now) c.in-Some.command (g.S.Source.left c.args.source.now)
+    completes_consoles (AskVtOne (texts_of c.args.words.now)) (texts_of c.args.words.now) c.in-Some.command
+    (g.S.Source.left c.args.source.now)
     (g.S.Source.left c.work_on.new.source) (g.S.Source.faults c.args.source.now)
     (g.S.Source.faults c.work_on.new.source) (returned c.tell-in-Ok.result) c.in-Ok.work.ending
     c.tell-in-Ok.result.status inr c.in-Some.ensures.known.1 c.tell-in-Ok.ensures.status

@@ -7,7 +7,8 @@ use Rattle.tty_one.proofs.Outcomes.{no_log, no_modem_log, no_session, none_deriv
 use Rattle.tty_one.proofs.Outcomes.{no_entries, none_judged, not_processes, nothing_by, one_if_not_on_threads}
 use Rattle.tty_one.proofs.Outcomes.{reads_nothing, refused_by, threads_read, told_by, took_by, work_with}
 use Rattle.tty_run.proofs.WordLemmas.{broken_one, consoles_headline, consoles_one, for_fewer, headline, not_run, not_vt}
-use Rattle.tty_run.proofs.WordLemmas.{play_one, threads_are_not_jobs, threads_are_not_modem, threads_end, threads_reading, unknown_to_one}
+use Rattle.tty_run.proofs.WordLemmas.{play_one, threads_are_not_jobs, threads_are_not_modem, threads_end}
+use Rattle.tty_run.proofs.WordLemmas.{threads_reading, unknown_to_one}
 use Rattle.tty_run.proofs.top.tty_run.Goals as goal
 
 -- ---- one thread
@@ -73,7 +74,8 @@ returns-in-Ok-clause-consoles_headline g c = λ vt zero_is.
 
 pub returns-in-Ok-clause-too_long : goal.returns-in-Ok-clause-too_long
 returns-in-Ok-clause-too_long g c = took_by c.in-Ok.work.ending c.tell.result.status _ _
-    (g.S.Source.left c.args.source.now) (g.S.Source.left c.work_on.new.source) c.in-Ok.ensures.from c.tell.ensures.status
+    (g.S.Source.left c.args.source.now) (g.S.Source.left c.work_on.new.source) c.in-Ok.ensures.from
+    c.tell.ensures.status
 
 pub returns-in-Ok-clause-long : goal.returns-in-Ok-clause-long
 returns-in-Ok-clause-long g c = long_by c.in-Ok.work.ending c.tell.result.status _ _ (g.S.Source.left c.args.source.now)
@@ -125,7 +127,8 @@ returns-in-Ok-clause-complete g c =
 pub returns-in-Ok-clause-judged : goal.returns-in-Ok-clause-judged
 returns-in-Ok-clause-judged g c =
     judged (texts_of c.args.words.now) c.in-Some.command (g.S.Source.left c.args.source.now)
-    (g.S.Source.left c.work_on.new.source) (g.S.Source.faults c.args.source.now) (g.S.Source.faults c.work_on.new.source)
+    (g.S.Source.left c.work_on.new.source) (g.S.Source.faults c.args.source.now)
+    (g.S.Source.faults c.work_on.new.source)
     (brought c.in-Ok.work) c.in-Ok.work.ending c.tell.result.status c.in-Some.ensures.known.1 c.tell.ensures.status
     c.in-Ok.ensures.from c.in-Ok.ensures.work c.in-Ok.ensures.rest
 

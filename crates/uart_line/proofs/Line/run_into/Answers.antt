@@ -1,4 +1,4 @@
-use Rattle.std.proofs.Common.{◌+◌, ◌≤◌, ◌++◌, List, length, arith}
+use Rattle.std.proofs.Common.{◌+◌, ◌++◌, List, arith}
 use Rattle.tty_base.specs.declared.lines.LineStep.{LineStep}
 use Rattle.uart_line.specs.Received.{closed_script}
 use Rattle.uart_line.proofs.Arrivals.{received_few}

@@ -2,6 +2,7 @@ use Rattle.std.proofs.Common.{◌≡◌, map, ap, ◌∙◌}
 use Rattle.std.specs.Vec.{with_items}
 use Rattle.std.proofs.lemmas.List.{with_items_is}
 use Rattle.std.proofs.lemmas.Result.{err_from_is_err_and}
+use Rattle.tty_base.specs.Sizes.{MOST_ENTRIES}
 use Rattle.tty_calls.specs.Sessions.{phase_of}
 use Rattle.vt_text.specs.Sessions.{vt_phase_of, vt_session_of}
 use Rattle.vt_account.specs.Seats.{operator_names}
@@ -18,7 +19,8 @@ returns-clause-keyed c =
     with_items_is old new (c.play_phases.auto.phases ∙ c.as_mut_slice.ensures.len) in
     let was : c.as_mut_slice.result.now ≡ c.args.session.now.calls.phases.items =
     c.as_mut_slice.ensures.value ∙ (c.into_vec-phases.ensures ∙ ap (λ b. b.items) c.replace.ensures.value) in
-    keyed_is session c.in_ok-names.names c.in_ok-board.board 4194304 (map vt_phase_of c.as_slice-keyboards.result.now)
+    keyed_is session c.in_ok-names.names c.in_ok-board.board MOST_ENTRIES
+    (map vt_phase_of c.as_slice-keyboards.result.now)
     (map phase_of c.as_mut_slice.result.now) (map phase_of c.from_vec.result.items)
     (c.in_ok-names.ensures.names ∙ ap (λ xs. operator_names (map vt_phase_of xs)) c.as_slice.ensures)
     c.in_ok-board.ensures.made

@@ -7,7 +7,7 @@ use Rattle.std.proofs.lemmas.Iterator.Adapters.{YieldsList-from_vec}
 use Rattle.std.proofs.lemmas.Iterator.Consumers.{YieldsList-turn, YieldsList-end}
 use Rattle.tty_calls.specs.declared.answers.PortEnd.{PortEnd}
 use Rattle.tty_calls.specs.declared.journals.PortRun.{PortRun}
-use Rattle.one_thread.specs.Phases.{AreFirstPlayed}
+use Rattle.play_base.specs.Phases.{AreFirstPlayed}
 use Rattle.vt_play.proofs.ConsoleLists.{all_ended, none_ended, one_more_ended}
 use Rattle.vt_play.proofs.consoles.end_all.Goals as goal
 

@@ -1,6 +1,6 @@
 use Rattle.std.proofs.Common.{◌≤◌, ◌+◌, length}
 use Rattle.tty_calls.specs.Sessions.{PlainSession}
-use Rattle.one_thread.specs.Phases.{AreFirstPlayed}
+use Rattle.play_base.specs.Phases.{AreFirstPlayed}
 use Rattle.vt_play.specs.Parts.{StandAtEnd}
 use Rattle.vt_play.proofs.consoles.end_all.Given as goal
 

@@ -1,4 +1,4 @@
-use Rattle.one_thread.specs.Played.{ArePlayed}
+use Rattle.play_base.specs.Played.{ArePlayed}
 use Rattle.many_threads.proofs.Onward.{at_ok}
 use Rattle.vt_play.proofs.Overs.{can_end_over, vt_played}
 use Rattle.vt_play.proofs.playing.end.Goals as goal

@@ -1,4 +1,5 @@
 use Rattle.std.proofs.Common.{ap, sym, subst, ◌∙◌, ◌≡◌, length, [], Vec, Global}
+use Rattle.tty_base.specs.Sizes.{MOST_ENTRIES}
 use Rattle.many_threads.proofs.Onward.{at_ok}
 use Rattle.vt_text.specs.Sessions.{vt_session_of}
 use Rattle.vt_threads.specs.declared.consoles.Console.{Console}
@@ -14,7 +15,7 @@ returns c =
     let is = c.in_ok-consoles-2.ensures.kept in
     let board = c.in_ok-consoles-2.board in
     let new = at_ok c.new-board.result board
-    (λ b. b ≡ record { consoles = vt.calls.ports; limit = 4194304; entries = [] })
+    (λ b. b ≡ record { consoles = vt.calls.ports; limit = MOST_ENTRIES; entries = [] })
     c.in_ok-consoles-2.ensures.made c.new-board.ensures in
     record {
       board = board_first vt board c.requires new;

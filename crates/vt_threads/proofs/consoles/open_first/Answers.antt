@@ -1,4 +1,4 @@
-use Rattle.std.proofs.Common.{◌≤◌, [], List, length, ℕ, ap, sym, subst, ◌∙◌}
+use Rattle.std.proofs.Common.{◌≤◌, [], List, ℕ, ap, sym, subst, ◌∙◌}
 use Rattle.std.specs.Prelude.{sum}
 use Rattle.tty_calls.specs.Limits.{character_count}
 use Rattle.many_threads.specs.InPlay.{IsBeforePhase}

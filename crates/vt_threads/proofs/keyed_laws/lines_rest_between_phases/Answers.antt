@@ -1,5 +1,5 @@
 use Rattle.vt_threads.proofs.KeyedPlay.{can_begin, rests_between}
-use Rattle.journal_check.specs.Legal.{script_of_first}
+use Rattle.legal_runs.specs.Legal.{script_of_first}
 use Rattle.vt_threads.proofs.keyed_laws.lines_rest_between_phases.Goals as goal
 
 pub returns : goal.returns

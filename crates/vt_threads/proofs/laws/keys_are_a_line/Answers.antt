@@ -3,7 +3,7 @@ use Rattle.tty_base.specs.declared.lines.LineStep.TheVariants.{Trigger}
 use Rattle.uart_line.specs.GoodSteps.{good_steps}
 use Rattle.uart_line.specs.Received.{closed_script}
 use Rattle.vt_account.specs.Keyed.{key_line}
-use Rattle.vt_threads.proofs.Pressing.{does_more}
+use Rattle.vt_keyboard.proofs.Pressing.{does_more}
 use Rattle.vt_threads.proofs.laws.keys_are_a_line.Goals as goal
 
 pub returns : goal.returns

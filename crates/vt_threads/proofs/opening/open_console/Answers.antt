@@ -1,6 +1,7 @@
 use Rattle.std.proofs.Common.{◌≡◌, ◌≤◌, false, ℕ, List, [], length, ap, subst, sym, ◌∙◌, arith}
 use Rattle.std.specs.Prelude.{slice_index_or, sum}
 use Rattle.std.proofs.lemmas.List.Elements.{All-get_or}
+use Rattle.tty_base.specs.Sizes.{LEAST_FLIP, MOST_ENTRIES}
 use Rattle.tty_base.specs.declared.characters.Flagged.{Flagged}
 use Rattle.tty_base.specs.declared.lines.Overrun.{Overrun}
 use Rattle.word_ring.specs.Ends.{PutterState, TakerState}
@@ -8,12 +9,12 @@ use Rattle.tty_calls.specs.Limits.{character_count}
 use Rattle.tty_calls.specs.Plain.{PlainEntry}
 use Rattle.tty_calls.specs.Sessions.{session_of, counts_on}
 use Rattle.tty_terminal.specs.Terminals.{opening}
-use Rattle.journal_check.specs.Legal.{flip_on}
+use Rattle.legal_runs.specs.Legal.{flip_on}
 use Rattle.port_core.specs.Ports.{PortValue}
-use Rattle.one_thread.specs.Roles.{Scene, scene_of, names_in, AreFirstSteps}
-use Rattle.one_thread.specs.Lines.{IsAtPhase}
-use Rattle.one_thread.specs.Phases.{HavePlayedInOrder}
-use Rattle.one_thread.proofs.PortLemmas.{opened_at, nothing_played, no_first_steps, zeros}
+use Rattle.play_base.specs.Roles.{Scene, names_in, AreFirstSteps}
+use Rattle.play_base.specs.Beginning.{IsAtPhase}
+use Rattle.play_base.specs.Phases.{HavePlayedInOrder}
+use Rattle.play_base.proofs.PortLemmas.{opened_at, nothing_played, no_first_steps, zeros}
 use Rattle.many_threads.proofs.Onward.{opened_before}
 use Rattle.vt_threads.proofs.SameCallers.{same_counts, same_names}
 use Rattle.vt_threads.proofs.opening.open_console.Goals as goal
@@ -33,8 +34,8 @@ returns c x differ few_come =
     ∙ ap (λ (xs : List ℕ). slice_index_or xs p 0) c.as_slice.ensures in
     let ports = c.requires.within.flips in
     let port = c.requires.port in
-    let room : 64 ≤ flip_on p y =
-    All-get_or (λ n. 64 ≤ n) c.args.session.now.flips.items p 0 (omega (arith, ports, port))
+    let room : LEAST_FLIP ≤ flip_on p y =
+    All-get_or (λ n. LEAST_FLIP ≤ n) c.args.session.now.flips.items p 0 (omega (arith, ports, port))
     c.requires.within.some_flip in
     let most : character_count p x.phases ≤ c.in_ok-line.line.most =
     omega (arith, c.in_ok-line.ensures.room, few_come) in
@@ -44,7 +45,7 @@ returns c x differ few_come =
       journal = [];
       kept = [];
       counts = c.as_slice-2.result.now;
-      limit = 4194304;
+      limit = MOST_ENTRIES;
       starved = false;
       flip = taker;
     }) putter c.in_ok-line.line 0 =
@@ -60,7 +61,7 @@ returns c x differ few_come =
       journal = [];
       kept = [];
       counts = c.as_slice-2.result.now;
-      limit = 4194304;
+      limit = MOST_ENTRIES;
       starved = false;
       flip = taker;
     } = c.in_ok-new.ensures in

@@ -1,6 +1,6 @@
 use Rattle.std.proofs.Common.{sym, subst}
-use Rattle.one_thread.specs.Roles.{scene_of}
-use Rattle.one_thread.specs.Casting.{scripts_at}
+use Rattle.play_base.specs.Roles.{scene_of}
+use Rattle.play_base.specs.Casting.{scripts_at}
 use Rattle.many_threads.proofs.Seated.{AreBelow, all_below}
 use Rattle.vt_threads.proofs.parting.cast_console.Goals as goal
 

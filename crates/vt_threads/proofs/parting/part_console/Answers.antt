@@ -1,7 +1,7 @@
 use Rattle.std.proofs.Common.{◌≡◌, Option, Vec, Global, None, map, replicate}
-use Rattle.one_thread.specs.Roles.{AreRolesOf, role_in, scene_of}
-use Rattle.one_thread.specs.Casting.{scripts_at}
-use Rattle.one_thread.specs.declared.roles.Role.{Role}
+use Rattle.play_base.specs.Roles.{AreRolesOf, role_in, scene_of}
+use Rattle.play_base.specs.Casting.{scripts_at}
+use Rattle.play_base.specs.declared.roles.Role.{Role}
 use Rattle.many_threads.specs.Cast.{seated}
 use Rattle.many_threads.proofs.Onward.{at_ok}
 use Rattle.vt_threads.proofs.PartedMade.{few_callers_in, parted_full, ring_before}

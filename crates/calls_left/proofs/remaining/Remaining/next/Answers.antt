@@ -1,6 +1,5 @@
 use Rattle.std.proofs.Common.{◌≡◌, None, Some, List, ap, sym, ◌∙◌}
 use Rattle.std.specs.Prelude.{slice_get}
-use Rattle.passed_calls.specs.Scripts.{AnyCall}
 use Rattle.calls_left.specs.declared.remaining.Cursor.{Cursor}
 use Rattle.calls_left.specs.Remaining.{calls_from, first_call, left_at, own_from, place_of, plain_from}
 use Rattle.calls_left.proofs.Mixed.{at_place, first_is, past_place, told}

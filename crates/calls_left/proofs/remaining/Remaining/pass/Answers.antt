@@ -1,7 +1,6 @@
-use Rattle.std.proofs.Common.{◌≡◌, ◌≤◌, inl, inr, None, Some, List, length, map, ap, sym, ◌∙◌}
+use Rattle.std.proofs.Common.{◌≡◌, None, Some, List, map, ap, sym, ◌∙◌}
 use Rattle.std.specs.Prelude.{slice_get, slice_set}
 use Rattle.std.proofs.lemmas.List.{with_items_is}
-use Rattle.passed_calls.specs.Scripts.{AnyCall}
 use Rattle.calls_left.specs.declared.remaining.Cursor.{Cursor}
 use Rattle.calls_left.specs.Remaining.{after_next, calls_from, left_at}
 use Rattle.calls_left.proofs.Mixed.{at_place, set_map, set_none}

@@ -1,6 +1,4 @@
-use Rattle.std.proofs.Common.{◌≡◌, ◌∙◌, ◌≤◌, ◌<◌, [], ◌++◌, length, map, min, take, drop, sym, ap, arith}
-use Rattle.line_store.specs.Unread.{Byte, bytes_of, first_piece, line_of, after_line, read_size}
-use Rattle.line_store.specs.Pieces.{items_of, total, after_front}
+use Rattle.std.proofs.Common.{length, ap, arith}
 use Rattle.line_store.proofs.PieceLemmas as pieces
 use Rattle.line_store.proofs.store.Store.append.Goals as goal
 

@@ -1,7 +1,6 @@
 use Rattle.std.proofs.Common.{◌≡◌, ◌+◌, length, take, map, ap, subst, arith, length-take}
 use Rattle.std.proofs.lemmas.List.{length-map}
 use Rattle.tty_base.specs.declared.characters.Flagged.{Flagged}
-use Rattle.line_store.specs.Unread.{Byte}
 use Rattle.line_store.specs.Good.{bytes_in}
 use Rattle.line_store.specs.Pieces.{IsStore}
 use Rattle.line_store.proofs.PieceLemmas as pieces

@@ -1,6 +1,5 @@
-use Rattle.std.proofs.Common.{get_or, ◌≡◌, ◌∙◌, ◌≤◌, ◌<◌, [], ◌++◌, length, map, min, take, drop, sym, ap, arith}
-use Rattle.line_store.specs.Unread.{Byte, bytes_of, first_piece, line_of, after_line, read_size}
-use Rattle.line_store.specs.Pieces.{items_of, total, after_front}
+use Rattle.std.proofs.Common.{get_or, ◌∙◌, length, sym, ap, arith}
+use Rattle.line_store.specs.Unread.{first_piece}
 use Rattle.line_store.proofs.ItemLemmas.{length-first_piece}
 use Rattle.line_store.proofs.PieceLemmas as pieces
 use Rattle.line_store.proofs.store.Store.first_len.Goals as goal

@@ -1,7 +1,5 @@
-use Rattle.std.proofs.Common.{◌≡◌, ◌∙◌, ◌≤◌, ◌<◌, ◌+◌, ◌-◌, ◌++◌, ℕ, List, length, map, min, take, drop, sym, ap, arith}
-use Rattle.tty_base.specs.Contents.{Contents}
-use Rattle.line_store.specs.Unread.{Byte, bytes_of, first_piece, line_of, after_line, read_size}
-use Rattle.line_store.specs.Pieces.{items_of, total, after_front}
+use Rattle.std.proofs.Common.{◌≡◌, ◌∙◌, ◌-◌, length, take, sym, ap, arith}
+use Rattle.line_store.specs.Unread.{bytes_of, first_piece}
 use Rattle.line_store.proofs.ItemLemmas.{take-first_piece}
 use Rattle.line_store.proofs.PieceLemmas as pieces
 use Rattle.line_store.proofs.store.Store.front.Goals as goal

@@ -1,4 +1,4 @@
-use Rattle.std.proofs.Common.{◌≡◌, ℕ, ◌+◌, ◌-◌, ◌≤◌, length, take, drop, ap, ◌∙◌, subst, arith, length-drop}
+use Rattle.std.proofs.Common.{◌≡◌, ◌-◌, ◌≤◌, length, take, drop, ap, ◌∙◌, subst, arith, length-drop}
 use Rattle.n_tty.specs.States.{OnPort, on_port}
 use Rattle.n_tty.specs.Runs.{after_characters, AcceptsAll}
 use Rattle.n_tty.proofs.FrontLemmas.{received_on, accepts_on}

@@ -1,4 +1,5 @@
-use Rattle.std.proofs.Common.{◌≡◌, ◌+◌, ◌-◌, ◌*◌, ◌^◌, ◌≤◌, length, take}
+use Rattle.std.proofs.Common.{◌≡◌, ◌+◌, ◌-◌, ◌*◌, ◌≤◌, length, take}
+use Rattle.tty_base.specs.Sizes.{COLUMNS_OF_CHARACTER}
 use Rattle.n_tty.specs.States.{on_port, FitsModes}
 use Rattle.n_tty.specs.Spending.{pending_count}
 use Rattle.n_tty.specs.Runs.{after_characters, AcceptsAll}
@@ -16,7 +17,7 @@ invariant-loop-done l =
       spent : l.initial.wire.spare + pending_count l.self l.wire
           ≤ l.wire.spare + (pending_count l.initial.self l.initial.wire + 41 * l.done);
       signals : l.initial.tally.signals.spare ≤ l.tally.signals.spare + l.done;
-      moved : l.self.column ≤ l.initial.self.column + 2 ^ 22 * l.done;
+      moved : l.self.column ≤ l.initial.self.column + COLUMNS_OF_CHARACTER * l.done;
       past : l.initial.self.last ≤ l.now → l.self.last ≤ l.now;
     }
 

@@ -3,7 +3,7 @@ use Rattle.std.proofs.Common.{rules, ap, sym, subst, ◌∙◌, arith, length-ta
 use Rattle.std.proofs.lemmas.List.{take-take}
 use Rattle.tty_base.specs.declared.characters.Flagged.{Flagged}
 use Rattle.flow_control.specs.declared.tally.Tally.{Tally}
-use Rattle.tty_modes.specs.Settings.{Settings, has_flag}
+use Rattle.tty_modes.specs.Settings.{has_flag}
 use Rattle.flow_control.specs.Output.{Output, is_halted}
 use Rattle.flow_control.specs.Counting.{no_counts}
 use Rattle.tty_modes.specs.declared.places.TheConstants.{IXOFF}

@@ -1,4 +1,4 @@
-use Rattle.std.proofs.Common.{◌≡◌, ◌≤◌, ◌∙◌, ◌+◌, [], ◌∷◌, sym, ap}
+use Rattle.std.proofs.Common.{◌≤◌, ◌∙◌, sym, ap}
 use Rattle.tty_modes.specs.Settings.{has_flag}
 use Rattle.tty_modes.specs.declared.places.TheConstants.{IUTF8}
 use Rattle.opost_out.specs.Column.{column_after, posted_text, posted_text_under}

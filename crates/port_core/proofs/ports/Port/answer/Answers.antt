@@ -1,5 +1,6 @@
 use Rattle.std.proofs.Common.{◌≡◌, ℕ, List, Option, [], ◌∷◌, ◌++◌, Bool, false, Some, ◌+◌}
 use Rattle.std.proofs.Common.{◌<◌, ◌≤◌, length, refl, sym, ◌∙◌, ap, subst, arith, append-nil}
+use Rattle.tty_base.specs.Sizes.{COLUMNS_OF_PIECE}
 use Rattle.tty_calls.specs.declared.journals.Who.TheVariants.{Caller}
 use Rattle.tty_calls.specs.Plain.{PlainEntry, answered, parted, handle_of, call_of}
 use Rattle.tty_calls.specs.Plain.{answer_of, entry_of, bytes_by, bytes_in}
@@ -159,8 +160,8 @@ answers c =
     let left : c.meet.new.self.terminal ≡ left_by o v.terminal =
     c.meet.ensures.left
     ∙ ap (λ (t : Terminal). left_by (outcome t (caller_at t d) call) t) c.prepare.ensures.terminal in
-    let column : column_in c.meet.new.self.terminal.disc ≤ column_in v.terminal.disc + 4096 =
-    subst (λ (t : Terminal). column_in c.meet.new.self.terminal.disc ≤ column_in t.disc + 4096)
+    let column : column_in c.meet.new.self.terminal.disc ≤ column_in v.terminal.disc + COLUMNS_OF_PIECE =
+    subst (λ (t : Terminal). column_in c.meet.new.self.terminal.disc ≤ column_in t.disc + COLUMNS_OF_PIECE)
     c.prepare.ensures.terminal c.meet.ensures.column in
     let keeps : drops_of o ≡ false =
     subst (λ (w : PortValue). drops_of (outcome w.terminal (caller_at w.terminal d) call) ≡ false) (sym c.self.view_is)
@@ -237,8 +238,8 @@ takes c =
     let left : c.meet.new.self.terminal ≡ left_by o v.terminal =
     c.meet.ensures.left
     ∙ ap (λ (t : Terminal). left_by (outcome t (caller_at t d) call) t) c.prepare.ensures.terminal in
-    let column : column_in c.meet.new.self.terminal.disc ≤ column_in v.terminal.disc + 4096 =
-    subst (λ (t : Terminal). column_in c.meet.new.self.terminal.disc ≤ column_in t.disc + 4096)
+    let column : column_in c.meet.new.self.terminal.disc ≤ column_in v.terminal.disc + COLUMNS_OF_PIECE =
+    subst (λ (t : Terminal). column_in c.meet.new.self.terminal.disc ≤ column_in t.disc + COLUMNS_OF_PIECE)
     c.prepare.ensures.terminal c.meet.ensures.column in
     let keeps : drops_of o ≡ false =
     subst (λ (w : PortValue). drops_of (outcome w.terminal (caller_at w.terminal d) call) ≡ false) (sym c.self.view_is)

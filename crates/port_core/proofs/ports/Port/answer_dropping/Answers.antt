@@ -25,6 +25,7 @@ use Rattle.tty_terminal.specs.Meeting.{Meets}
 use Rattle.tty_terminal.proofs.Effects.{Leaves, outcome_keeps}
 use Rattle.port_core.proofs.Fitting.{answer_fits}
 use Rattle.std.proofs.lemmas.Bool.{false≢true}
+use Rattle.tty_base.specs.Sizes.{COLUMNS_OF_PIECE, MOST_FLIP}
 use Rattle.word_ring.specs.Ends.{TakerState}
 use Rattle.port_core.specs.Ports.{IsPort}
 use Rattle.port_core.proofs.ports.Port.answer_dropping.Goals as goal
@@ -62,7 +63,7 @@ drops_within v f chars p shown = omega (
 drops_few : (v : PortValue) (f : TakerState Flagged) (chars : List Flagged)
     → IsPort v
     → DropsShown v.terminal v.flip f chars
-    → length chars ≤ 65536
+    → length chars ≤ MOST_FLIP
 drops_few v f chars p shown = omega (arith, drops_within v f chars p shown, p.capacity)
 
 pub caller-state-requires : goal.caller-state-requires
@@ -198,8 +199,8 @@ answers c =
     let left : c.meet.new.self.terminal ≡ left_by o v.terminal =
     c.meet.ensures.left
     ∙ ap (λ (t : Terminal). left_by (outcome t (caller_at t d) call) t) c.prepare.ensures.terminal in
-    let column : column_in c.meet.new.self.terminal.disc ≤ column_in v.terminal.disc + 4096 =
-    subst (λ (t : Terminal). column_in c.meet.new.self.terminal.disc ≤ column_in t.disc + 4096)
+    let column : column_in c.meet.new.self.terminal.disc ≤ column_in v.terminal.disc + COLUMNS_OF_PIECE =
+    subst (λ (t : Terminal). column_in c.meet.new.self.terminal.disc ≤ column_in t.disc + COLUMNS_OF_PIECE)
     c.prepare.ensures.terminal c.meet.ensures.column in
     let drops : drops_of o ≡ true =
     subst (λ (w : PortValue). drops_of (outcome w.terminal (caller_at w.terminal d) call) ≡ true) (sym c.self.view_is)

@@ -1,6 +1,7 @@
-use Rattle.std.proofs.Common.{◌≡◌, ℕ, ◌+◌, ◌*◌, ◌^◌, List, [], ◌∷◌, ◌++◌, ◌<◌, ◌≤◌, false}
+use Rattle.std.proofs.Common.{◌≡◌, ℕ, ◌+◌, ◌*◌, List, [], ◌∷◌, ◌++◌, ◌<◌, ◌≤◌, false}
 use Rattle.std.proofs.Common.{Some, length, take, refl, sym, ◌∙◌, subst, ap, arith}
 use Rattle.std.proofs.lemmas.List.{length-map}
+use Rattle.tty_base.specs.Sizes.{COLUMNS_OF_CHARACTER}
 use Rattle.tty_base.specs.Characters.{good_character, good_characters}
 use Rattle.tty_base.specs.declared.characters.Flagged.{Flagged}
 use Rattle.word_ring.specs.Ends.{PutterState, TakerState, NothingWaits}
@@ -72,8 +73,9 @@ gives c =
     let accepted : AcceptsAll v.terminal (take n chars) =
     subst (λ (z : Terminal × List Flagged). AcceptsAll z.0 (take n z.1)) (λ i. (kept i, added i)) told.accepted in
     let stops : n < length chars → accepts u ≡ false = λ less. told.stops (omega (arith, less, count)) in
-    let column : column_in u.disc ≤ column_in v.terminal.disc + 2 ^ 22 * length chars =
-    subst (λ (z : Terminal × ℕ). column_in u.disc ≤ column_in z.0.disc + 2 ^ 22 * z.1) (λ i. (kept i, count i))
+    let column : column_in u.disc ≤ column_in v.terminal.disc + COLUMNS_OF_CHARACTER * length chars =
+    subst (λ (z : Terminal × ℕ). column_in u.disc ≤ column_in z.0.disc + COLUMNS_OF_CHARACTER * z.1)
+    (λ i. (kept i, count i))
     told.column in
     let e : PlainEntry = flush_entry v run 0 (take n chars) in
     let generation : c.generation-generation.result ≡ v.terminal.generation =

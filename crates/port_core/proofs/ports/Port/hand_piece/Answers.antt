@@ -1,5 +1,6 @@
-use Rattle.std.proofs.Common.{◌≡◌, ℕ, ◌+◌, ◌*◌, ◌^◌, List, [], ◌∷◌, ◌++◌, ◌<◌, ◌≤◌}
+use Rattle.std.proofs.Common.{◌≡◌, ℕ, ◌+◌, ◌*◌, List, [], ◌∷◌, ◌++◌, ◌<◌, ◌≤◌}
 use Rattle.std.proofs.Common.{false, Some, length, refl, sym, ◌∙◌, subst, ap, arith}
+use Rattle.tty_base.specs.Sizes.{COLUMNS_OF_CHARACTER}
 use Rattle.tty_base.specs.declared.characters.Flagged.{Flagged}
 use Rattle.tty_calls.specs.Plain.{PlainEntry, flushed, entry_of}
 use Rattle.tty_calls.specs.declared.journals.Who.TheVariants.{Flusher}
@@ -74,7 +75,8 @@ hands c =
     told.received ∙ ap (λ (t : Terminal). after_characters t chars) kept in
     let accepted : AcceptsAll v.terminal chars = subst (λ (t : Terminal). AcceptsAll t chars) kept told.accepted in
     let column =
-    subst (λ (t : Terminal). column_in u.disc ≤ column_in t.disc + 2 ^ 22 * c.min-count.result) kept told.column in
+    subst (λ (t : Terminal). column_in u.disc ≤ column_in t.disc + COLUMNS_OF_CHARACTER * c.min-count.result) kept
+    told.column in
     let some : 0 < c.min-count.result = omega (arith, c.if-count-eq0.false) in
     let e : PlainEntry = flush_entry v c.args.run c.args.part chars in
     let generation : c.generation-generation.result ≡ v.terminal.generation =

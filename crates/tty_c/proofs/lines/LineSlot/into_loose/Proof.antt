@@ -26,7 +26,7 @@ use Rattle.std.proofs.alloc.Global.TheLaws as heap_laws
 use Rattle.std.specs.contracts.impls.GlobalAllocator.TheImpl.{ghosts}
 use Rattle.std.specs.Box.Ownership.{box_owns}
 use Rattle.std.proofs.raw_atomic.Walks.{proved_at}
-use Rattle.tty_device.specs.Lines.{LineState}
+use Rattle.tty_device.specs.Lines.{PutEnd}
 use Rattle.tty_device.specs.contracts.lines.Line as row_of
 use Rattle.tty_c.specs.Owning.{end_owns}
 use Rattle.tty_c.proofs.Machine.{pair_val, slot_val, slot_good, pair_good, allocator, loose_in}
@@ -51,11 +51,11 @@ into_loose_spec 𝓤 𝓛 𝓜 𝓡 wired =
     let Run : List Val → SProp 𝓤 = λ ws. WpFn 𝓤 𝓛.H 𝓣.C 𝓣.Λ code.function ws Post in
     qed 𝓛
     ((‵ ftrue ⊛ ‵ (owns (types_at f.signature.params z.0.0) z.0.3 z.0.4))
-    ∷ raw (fact 𝓤 ((t : LineState) × (d.end ≡ Some t))) ∷ []) ∵
+    ∷ raw (fact 𝓤 ((t : PutEnd) × (d.end ≡ Some t))) ∷ []) ∵
     move ! (1 ∷ [])
-    $ heard ! ((t : LineState) × (d.end ≡ Some t))
+    $ heard ! ((t : PutEnd) × (d.end ≡ Some t))
     (λ has. split ! $ move ! (1 ∷ []) $ fsplit ! $ slot_out ! d z.0.4.0 (λ ws.
-    rewrite ! 0 (λ (owned : Option LineState). ‵ (end_owns owned d.at)) has.1 refl $ fpick ! (λ kept.
+    rewrite ! 0 (λ (owned : Option PutEnd). ‵ (end_owns owned d.at)) has.1 refl $ fpick ! (λ kept.
     in_a_block ! d.at (λ (p : Ptr). box_owns (ghosts.dealloc_token kept) row_of.the_row p has.0)
     (fst∗ 𝓤 (never 𝓤) (sem 𝓛 (ghosts.dealloc_token kept (bare (lone row_of.the_row.mir)) null_ptr))) (λ b o at.
     move ! (1 ∷ [])

@@ -1,5 +1,6 @@
 use Rattle.std.proofs.Common.{◌≡◌, ◌<◌, length, sym, ◌∙◌, ap, subst, refl, arith}
 use Rattle.std.specs.Prelude.{slice_index_or}
+use Rattle.tty_base.specs.Sizes.{MOST_HANDLES}
 use Rattle.tty_calls.specs.Plain.{PlainCall, call_of, handle_of}
 use Rattle.tty_terminal.specs.declared.callers.CallerState.{CallerState}
 use Rattle.tty_terminal.specs.Terminals.{Terminal}
@@ -89,7 +90,7 @@ returns-clause-after c =
     let m = c.in_ok-met.met in
     let v : DeviceState = c.if-drops-2.self in
     let known : caller < length t.callers = omega (arith, c.callers.ensures, c.if-caller-callers.false) in
-    let number : handle_of call < 32 = omega (arith, c.handle.ensures, c.if-handle-ge-MOST_HANDLES.false) in
+    let number : handle_of call < MOST_HANDLES = omega (arith, c.handle.ensures, c.if-handle-ge-MOST_HANDLES.false) in
     let state = c.standing.ensures in
     let verbs : c.get-verb.result ≡ slice_index_or a.verbs caller verb.Never = c.get-verb.ensures in
     let goes : state_for d caller call ≡ state_of asker =
@@ -123,7 +124,7 @@ returns-clause-drops c =
     let t : Terminal = a.terminal.terminal in
     let v : DeviceState = c.if-drops-2.self in
     let known : caller < length t.callers = omega (arith, c.callers.ensures, c.if-caller-callers.false) in
-    let number : handle_of call < 32 = omega (arith, c.handle.ensures, c.if-handle-ge-MOST_HANDLES.false) in
+    let number : handle_of call < MOST_HANDLES = omega (arith, c.handle.ensures, c.if-handle-ge-MOST_HANDLES.false) in
     let state = c.standing.ensures in
     let verbs : c.get-verb.result ≡ slice_index_or a.verbs caller verb.Never = c.get-verb.ensures in
     let goes : state_for d caller call ≡ state_of asker =

@@ -2,7 +2,7 @@ use Rattle.std.proofs.Common.{◌≡◌, ◌++◌, map, length, refl, sym, ◌�
 use Rattle.tty_terminal.specs.Terminals.{Terminal}
 use Rattle.tty_terminal.specs.Receiving.{after_characters}
 use Rattle.tty_device.specs.Kept.{flushed}
-use Rattle.tty_device.specs.Devices.{DeviceState, is_stuck, Flushes}
+use Rattle.tty_device.specs.Devices.{DeviceState, is_stuck, FlushesShown}
 use Rattle.tty_device.specs.Inside.{device_of}
 use Rattle.tty_device.proofs.Handing.{as_many, kept_column, flushed_callers, flushed_noted}
 use Rattle.tty_device.proofs.Handing.{flushed_counted, flushes_from, flushes_where}
@@ -55,6 +55,6 @@ returns-clause-flushes c =
     in
     flushes_where (is_stuck c.args.self.now) c.args.self.now v c.args.most c.hand_over-count.result
     (sym c.is_stuck.ensures ∙ c.if-is_stuck.false)
-    (subst (λ (x : DeviceState). Flushes x v c.args.most c.hand_over-count.result) c.self.view_is
+    (subst (λ (x : DeviceState). FlushesShown x v c.args.most c.hand_over-count.result) c.self.view_is
     (flushes_from t u a.flip g cs c.min-most.result c.hand_over-count.result h d v c.args.most
     c.reserve.ensures.same refl (as_many a.taken.items a.flip.taken c.self.invariant.taken) c.min-most.ensures is))

@@ -2,9 +2,9 @@ use Rattle.std.proofs.Common.{rules, ◌≡◌, ◌++◌, Some, map, length, ref
 use Rattle.tty_terminal.specs.Terminals.{Terminal}
 use Rattle.tty_terminal.specs.Receiving.{after_characters}
 use Rattle.tty_device.specs.Kept.{flushed}
-use Rattle.tty_device.specs.Devices.{DeviceState, is_stuck, Flushes}
+use Rattle.tty_device.specs.Devices.{MOST_FLUSHED, DeviceState, is_stuck, FlushesShown}
 use Rattle.tty_device.specs.Inside.{device_of}
-use Rattle.tty_device.specs.Lines.{LineState}
+use Rattle.tty_device.specs.Lines.{PutEnd}
 use Rattle.tty_device.proofs.Handing.{as_many, kept_column, flushed_callers, flushed_noted}
 use Rattle.tty_device.proofs.Handing.{flushed_counted, flushes_from, flushes_where}
 use Rattle.tty_device.proofs.TakingIn.{takes_in_where}
@@ -25,13 +25,13 @@ invariant_of-self-2 c =
       column = kept_column (after_characters t cs) u h.left;
       verbs =
           c.self.invariant.verbs
-          ∙ sym (flushed_callers t u a.flip g cs 256 (length cs) h
+          ∙ sym (flushed_callers t u a.flip g cs MOST_FLUSHED (length cs) h
           ∙ ap (λ (x : Terminal). length x.callers) c.reserve.ensures.same);
-      taken = flushed_noted t u a.flip g cs 256 (length cs) h a.taken.items
+      taken = flushed_noted t u a.flip g cs MOST_FLUSHED (length cs) h a.taken.items
           c.note.new.self.items c.self.invariant.taken c.note.ensures;
-      dropped = flushed_counted t u a.flip g cs 256 (length cs) h a.taken.items c.note.new.self.items
+      dropped = flushed_counted t u a.flip g cs MOST_FLUSHED (length cs) h a.taken.items c.note.new.self.items
           a.dropped c.self.invariant.dropped c.note.ensures;
-      line = ap (λ (x : LineState). x.ring) c.hand_in-count.ensures.puts.after ∙ (ring ∙ sym h.ring);
+      line = ap (λ (x : PutEnd). x.ring) c.hand_in-count.ensures.puts.after ∙ (ring ∙ sym h.ring);
     }
 
 pub returns-clause-takes : goal.returns-clause-takes
@@ -41,7 +41,7 @@ returns-clause-takes c =
     let u : Terminal = c.hand_in-count.new.terminal.terminal in
     let g = c.hand_in-count.new.flip in
     let cs = c.hand_in-count.new.chars.items in
-    let l : LineState = c.hand_in-count.new.line in
+    let l : PutEnd = c.hand_in-count.new.line in
     let h = c.hand_in-count.ensures.hands in
     let now : DeviceState = c.args.self.now in
     let d : DeviceState = record (device_of a) { line = Some l } in
@@ -62,10 +62,11 @@ returns-clause-takes c =
       put = l;
       puts = c.hand_in-count.ensures.puts;
       handed = length cs;
-      flushes = flushes_where (is_stuck now) (record now { line = Some l }) v 256 (length cs)
+      flushes = flushes_where (is_stuck now) (record now { line = Some l }) v MOST_FLUSHED (length cs)
           (sym c.is_stuck-stuck.ensures ∙ c.if-stuck.false)
-          (subst (λ (x : DeviceState). Flushes (record x { line = Some l }) v 256 (length cs)) c.self.view_is
-          (flushes_from t u a.flip g cs 256 (length cs) h d v 256 c.reserve.ensures.same refl
+          (subst (λ (x : DeviceState). FlushesShown (record x { line = Some l }) v MOST_FLUSHED (length cs))
+          c.self.view_is
+          (flushes_from t u a.flip g cs MOST_FLUSHED (length cs) h d v MOST_FLUSHED c.reserve.ensures.same refl
           (as_many a.taken.items a.flip.taken c.self.invariant.taken) refl is));
       seen = λ free. c.hand_in-count.ensures.seen;
     }

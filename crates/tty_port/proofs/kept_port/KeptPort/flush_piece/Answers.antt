@@ -1,12 +1,13 @@
 use Rattle.std.specs.Prelude.{IfOk, IfErr, OnOk}
 use Rattle.std.proofs.Common.{◌≡◌, ℕ, ◌≤◌, Result, Ok, Err, ap, arith}
+use Rattle.tty_base.specs.Sizes.{PIECE}
 use Rattle.tty_calls.specs.declared.answers.Denied.{Denied}
 use Rattle.port_core.specs.declared.ports.flushing.Flushed.{Flushed}
 use Rattle.port_core.specs.Ports.{PortValue, IsPort, IsOpen, Denies}
 use Rattle.port_core.specs.Flushes.{Flushes}
 use Rattle.port_cell.specs.Entries.{generation_of, AddsBy}
 use Rattle.tty_port.specs.Histories.{history_in, name_in}
-use Rattle.tty_port.specs.Flushing.{GoesOnAt, Hands}
+use Rattle.tty_port.specs.Flushing.{GoesOnAt, FlushesPiece}
 use Rattle.tty_port.proofs.Histories.{port_runs}
 use Rattle.tty_port.proofs.Attempting.{denied_same, denied_full}
 use Rattle.tty_port.proofs.Turning.{adds_nothing}
@@ -21,9 +22,9 @@ flushes_ok : (m : ℕ) (old new : PortValue) (run part most : ℕ) (r : Result F
     → OnOk r (IsOpen old)
     → GoesOnAt run part (generation_of (history_in m old)) (history_in m old)
     → IfOk r (Flushes old new run part most)
-    → most ≤ 64
-    → 64 ≤ most
-    → IfOk r (Hands (name_in m old) run part (history_in m old) (history_in m new))
+    → most ≤ PIECE
+    → PIECE ≤ most
+    → IfOk r (FlushesPiece (name_in m old) run part (history_in m old) (history_in m new))
 flushes_ok m old new run part most (Ok x) p q is_open goes h small large =
     flushes m old new run part most x p q is_open.0 goes small large h
 flushes_ok m old new run part most (Err d) p q is_open goes h small large = tt
@@ -39,14 +40,14 @@ flushes_kept m old new run part most (Err d) p h k = ap generation_of (denied_sa
 pub flush_piece-flushed-requires : goal.flush_piece-flushed-requires
 flush_piece-flushed-requires c = rw c.deref_mut-port.ensures.value (is_piece_of c.args.self.now.callers
     c.args.self.now.port.value c.args.run c.args.part _ (omega arith) (omega arith)
-    (rw (← c.deref_mut-port.ensures.value) c.journal-journal.ensures.port) c.requires)
+    (rw (← c.deref_mut-port.ensures.value) c.known.ensures.port) c.requires)
 
 pub returns-clause-flushed : goal.returns-clause-flushed
 returns-clause-flushed c =
     let v = c.args.self.now.port.value in
-    let p : IsPort v = rw (← c.deref_mut-port.ensures.value) c.journal-journal.ensures.port in
+    let p : IsPort v = rw (← c.deref_mut-port.ensures.value) c.known.ensures.port in
     flushes_ok c.args.self.now.callers v c.flush_piece-flushed.new.self c.args.run c.args.part _
-    c.flush_piece-flushed.result p c.journal-journal-2.ensures.port
+    c.flush_piece-flushed.result p c.known-2.ensures.port
     (rw c.deref_mut-port.ensures.value at c.flush_piece-flushed.ensures.open) c.requires
     (rw c.deref_mut-port.ensures.value at c.flush_piece-flushed.ensures.flushed) (omega arith) (omega arith)
 
@@ -61,11 +62,11 @@ returns-clause-by c =
     let m = c.args.self.now.callers in
     let v = c.args.self.now.port.value in
     let w = c.flush_piece-flushed.new.self in
-    let p : IsPort v = rw (← c.deref_mut-port.ensures.value) c.journal-journal.ensures.port in
+    let p : IsPort v = rw (← c.deref_mut-port.ensures.value) c.known.ensures.port in
     either_way c.flush_piece-flushed.result _ _ (AddsBy m (history_in m v) (history_in m w))
     (λ x h. hands_by (name_in m v) c.args.run c.args.part (history_in m v) (history_in m w) x h)
     (λ d h. adds_nothing m (history_in m v) (history_in m w) (denied_same m d v w h))
-    (flushes_ok m v w c.args.run c.args.part _ c.flush_piece-flushed.result p c.journal-journal-2.ensures.port
+    (flushes_ok m v w c.args.run c.args.part _ c.flush_piece-flushed.result p c.known-2.ensures.port
     (rw c.deref_mut-port.ensures.value at c.flush_piece-flushed.ensures.open) c.requires
     (rw c.deref_mut-port.ensures.value at c.flush_piece-flushed.ensures.flushed) (omega arith) (omega arith))
     (rw (← c.deref_mut-port.ensures.value) c.flush_piece-flushed.ensures.err)
@@ -73,11 +74,11 @@ returns-clause-by c =
 pub returns-clause-generation : goal.returns-clause-generation
 returns-clause-generation c =
     let v = c.args.self.now.port.value in
-    let p : IsPort v = rw (← c.deref_mut-port.ensures.value) c.journal-journal.ensures.port in
+    let p : IsPort v = rw (← c.deref_mut-port.ensures.value) c.known.ensures.port in
     flushes_kept c.args.self.now.callers v c.flush_piece-flushed.new.self
     c.args.run c.args.part _ c.flush_piece-flushed.result p
     (rw c.deref_mut-port.ensures.value at c.flush_piece-flushed.ensures.flushed)
     (rw (← c.deref_mut-port.ensures.value) c.flush_piece-flushed.ensures.err)
 
 pub returns-clause-few : goal.returns-clause-few
-returns-clause-few c = port_runs c.args.self.now.callers c.flush_piece-flushed.new.self c.journal-journal-2.ensures.port
+returns-clause-few c = port_runs c.args.self.now.callers c.flush_piece-flushed.new.self c.known-2.ensures.port

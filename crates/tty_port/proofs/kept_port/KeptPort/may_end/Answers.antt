@@ -10,4 +10,4 @@ returns c =
     rw (← c.deref-port.ensures)
     (c.may_end.ensures
     ∙ ap (λ (t : Terminal). may_end v.counts t)
-    (sym (port_terminal c.args.self.now.callers v c.journal-journal.ensures.port)))
+    (sym (port_terminal c.args.self.now.callers v c.known.ensures.port)))

@@ -7,4 +7,4 @@ pub returns : goal.returns
 returns c =
     c.generation.ensures.value ∙ ap (λ (v : PortValue). v.terminal.generation) c.deref-2.ensures
     ∙ sym (port_generation c.args.self.now.callers c.args.self.now.port.value
-    (rw (← c.deref.ensures) c.journal-journal.ensures.port))
+    (rw (← c.deref.ensures) c.known.ensures.port))

@@ -5,8 +5,8 @@ use Rattle.port_cell.specs.Entries.{generation_of}
 use Rattle.port_cell.specs.Word.{generation_in}
 use Rattle.port_cell.specs.Knowledge.{list_seen, user_of, last_word, install_count}
 use Rattle.tty_port.specs.Histories.{history_of}
-use Rattle.tty_port.specs.Seen.{IsBetween}
-use Rattle.tty_port.specs.Adding.{IsAnswerOf, Tries}
+use Rattle.tty_port.specs.Seen.{IsBetweenCalls}
+use Rattle.tty_port.specs.Adding.{IsAnswerOf, TriesCall}
 use Rattle.tty_port.specs.Shared.{name_of_port}
 use Rattle.tty_port.specs.declared.kept_port.KeptPort.{KeptPort}
 use Rattle.tty_port.proofs.Keeping.{between_kept}
@@ -48,7 +48,7 @@ returns-in-Ok-Done-clause-ok g c =
     ∙ ap (λ (x : KeptPort). generation_of (history_of x)) (sym same)) in
     let seen : list_seen new ≡ history_of w = c.settle.ensures.list ∙ ap history_of c.value-3.ensures.value in
     let now = c.settle.ensures.same.number ∙ (c.begin_turn-turn.ensures.same.number ∙ c.requires.seat.number) in
-    let h : Tries n c.args.step call (history_of v) (history_of w) (done_by a) =
+    let h : TriesCall n c.args.step call (history_of v) (history_of w) (done_by a) =
     at_ok c.attempt-tried.result c.in-Ok-Done.field-0 _ _ c.in-Ok-Done.is
     c.in-Ok-Done.field-0-is c.attempt-tried.ensures.tried in
     let before : c.generation-before.result ≡ generation_of (history_of v) =
@@ -77,7 +77,7 @@ returns-in-Ok-Done-clause-ok g c =
             seen = seen;
           })
           (IsAnswerOf n c.args.step call a) (λ x is. is.1.seat) h.0;
-      next = subst (IsBetween n (c.args.step + 1)) (sym seen) h.1;
+      next = subst (IsBetweenCalls n (c.args.step + 1)) (sym seen) h.1;
       installed = raised_by (c.generation.result) (c.generation-before.result) (install_count old) (install_count new)
           (generation_in (last_word new)) (generation_of (list_seen new)) (before ∙ generation)
           (after ∙ sym (ap generation_of seen)) raised counted;

@@ -1,4 +1,4 @@
-use Rattle.std.proofs.Common.{◌≡◌, ℕ, ◌+◌, ◌<◌, ap, subst}
+use Rattle.std.proofs.Common.{ℕ, ◌<◌, ap, subst}
 use Rattle.port_cell.specs.Cells.{opening_value, seat_count}
 use Rattle.port_cell.specs.Entries.{GoesOn}
 use Rattle.port_cell.specs.Seats.{EachSeat}

@@ -1,11 +1,11 @@
-use Rattle.std.proofs.Common.{◌≡◌, ℕ, ◌+◌, ◌≤◌, rules, sym, ◌∙◌, subst, arith}
+use Rattle.std.proofs.Common.{ℕ, ◌+◌, rules, sym, subst, arith}
 use Rattle.port_core.specs.declared.ports.flushing.Flushed.TheVariants as outcome
 use Rattle.port_cell.specs.Word.{generation_in}
 use Rattle.port_cell.specs.Knowledge.{list_seen, last_word}
 use Rattle.tty_port.specs.Flushing.{GoesOnAt}
 use Rattle.tty_port.specs.Going.{FlushTurns}
 use Rattle.tty_port.specs.Shared.{name_of_port}
-use Rattle.tty_port.proofs.FlushSteps.{flush_begins, run_begins, flush_more, flush_none, longer}
+use Rattle.tty_port.proofs.FlushSteps.{flush_more, flush_none, longer}
 use Rattle.tty_port.proofs.Outcomes.{at_ok}
 use Rattle.tty_port.proofs.shared.SharedPort.flush_held.Goals as goal
 

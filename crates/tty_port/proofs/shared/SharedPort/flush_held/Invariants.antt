@@ -1,4 +1,5 @@
 use Rattle.std.proofs.Common.{◌≤◌, length}
+use Rattle.tty_base.specs.Sizes.{MOST_ENTRIES}
 use Rattle.port_cell.specs.Word.{generation_in}
 use Rattle.port_cell.specs.Knowledge.{list_seen, last_word}
 use Rattle.port_cell.specs.Seats.{KeepsUse}
@@ -16,6 +17,6 @@ invariant-loop g l =
       references : KeepsUse l.initial.seat l.seat;
       so_far : IsFlushing (name_of_port l.self) l.run l.part l.count l.initial.seat l.seat;
       piece : GoesOnAt l.run l.part (generation_in (last_word l.seat)) (list_seen l.seat);
-      bounded : l.part ≤ 4194304;
+      bounded : l.part ≤ MOST_ENTRIES;
       within : l.part ≤ length (list_seen l.seat);
     }

@@ -5,7 +5,7 @@ use Rattle.port_cell.specs.Knowledge.{list_seen, user_of, last_word}
 use Rattle.tty_port.specs.Inside.{Name}
 use Rattle.tty_port.specs.Histories.{history_of}
 use Rattle.tty_port.specs.Seen.{next_run}
-use Rattle.tty_port.specs.Flushing.{GoesOnAt, Hands}
+use Rattle.tty_port.specs.Flushing.{GoesOnAt, FlushesPiece}
 use Rattle.tty_port.specs.Shared.{name_of_port}
 use Rattle.tty_port.specs.declared.kept_port.KeptPort.{KeptPort}
 use Rattle.tty_port.proofs.Keeping.{goes_on_kept}
@@ -55,7 +55,7 @@ returns-clause-flushed g c =
       at = sym generation;
       seen = seen;
     })
-    x (subst (λ (k : Name). Hands k c.args.run c.args.part (history_of v) (history_of w) x) at.named h))
+    x (subst (λ (k : Name). FlushesPiece k c.args.run c.args.part (history_of v) (history_of w) x) at.named h))
     c.flush_piece-flushed.ensures.flushed
 
 pub returns-clause-next : goal.returns-clause-next

@@ -1,4 +1,4 @@
-use Rattle.std.proofs.Common.{◌≡◌, ◌≤◌, rules, sym, ◌∙◌, subst, arith}
+use Rattle.std.proofs.Common.{◌≡◌, arith}
 use Rattle.tty_calls.specs.Plain.{call_of, answer_of}
 use Rattle.port_cell.specs.Word.{generation_in}
 use Rattle.port_cell.specs.Knowledge.{list_seen, last_word}

@@ -1,4 +1,4 @@
-use Rattle.std.proofs.Common.{◌≡◌, ℕ, length, take, ap, sym, ◌∙◌, refl, subst, arith, length-take}
+use Rattle.std.proofs.Common.{◌≡◌, ℕ, length, take, ap, ◌∙◌, refl, subst, arith, length-take}
 use Rattle.flow_control.specs.Output.{without_room}
 use Rattle.flow_control.specs.Counting.{without_signal_room}
 use Rattle.ldisc_switch.specs.Disciplines.{disc_on_port}

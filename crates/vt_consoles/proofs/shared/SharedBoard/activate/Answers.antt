@@ -1,6 +1,6 @@
 use Rattle.std.proofs.Common.{◌≡◌, rules}
 use Rattle.port_cell.specs.Knowledge.{list_seen}
-use Rattle.vt_consoles.specs.Faults.{IsRefused}
+use Rattle.vt_consoles.specs.Faults.{IsRefusedCall}
 use Rattle.vt_consoles.specs.declared.entries.VtEvent.TheVariants.{Activate}
 use Rattle.vt_consoles.specs.Boards.{BoardState}
 use Rattle.vt_consoles.specs.Histories.{history_of}
@@ -98,5 +98,5 @@ returns-clause-refused g c =
     let new = c.end_turn.new.seat in
     let seen : list_seen new ≡ history_of w = first_of (cc, search rules) in
     let done = turned p n old now new b w t c.end_turn.ensures.same.number seen in
-    each_refused c.activate-result.result (name_of_board p) n old new b w (λ (x : BoardState). IsRefused x c.args.n)
+    each_refused c.activate-result.result (name_of_board p) n old new b w (λ (x : BoardState). IsRefusedCall x c.args.n)
     done c.activate-result.ensures.err c.activate-result.ensures.refused

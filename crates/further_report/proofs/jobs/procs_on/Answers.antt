@@ -1,7 +1,0 @@
-use Rattle.further_report.proofs.Sent.{proc_more}
-use Rattle.further_report.proofs.jobs.procs_on.Goals as goal
-
-pub loop-proc-preserved : goal.loop-proc-preserved
-loop-proc-preserved c =
-    proc_more c.loop-proc.found.items c.add_proc.new.found.items _ c.args.port c.loop-proc.proc-index c.args.procs.now
-    c.proc-item.result c.loop-proc-test.true c.proc-item.is c.in_ok-add_proc.ensures c.loop-proc.invariant

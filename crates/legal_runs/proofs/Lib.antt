@@ -1,0 +1,9 @@
+pub mod Truths
+pub mod PhaseLemmas
+pub mod NameLemmas
+pub mod OverLemmas
+pub mod MarkLemmas
+pub mod ScriptLemmas
+pub mod LineLemmas
+pub mod EventLemmas
+pub mod CallerLemmas

@@ -1,0 +1,4 @@
+pub mod Legal
+pub mod Phases
+pub mod Ports
+pub mod Short

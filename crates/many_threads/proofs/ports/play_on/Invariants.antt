@@ -1,4 +1,0 @@
-use Rattle.many_threads.proofs.ports.play_on.Given as goal
-
-abbrev pub ghost-play_work : goal.ghost-play_work
-ghost-play_work g a = g.scene

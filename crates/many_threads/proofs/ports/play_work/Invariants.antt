@@ -1,4 +1,0 @@
-use Rattle.many_threads.proofs.ports.play_work.Given as goal
-
-abbrev pub ghost-play_shared : goal.ghost-play_shared
-ghost-play_shared g a = g.scene

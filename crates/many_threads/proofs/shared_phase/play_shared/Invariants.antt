@@ -1,4 +1,0 @@
-use Rattle.many_threads.proofs.shared_phase.play_shared.Given as goal
-
-abbrev pub ghost-play_threads : goal.ghost-play_threads
-ghost-play_threads g a = g.scene

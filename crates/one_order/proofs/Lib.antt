@@ -1,0 +1,2 @@
+pub mod OrderRows
+pub mod Places

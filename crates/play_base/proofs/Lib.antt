@@ -1,0 +1,11 @@
+pub mod CastLemmas
+pub mod FullRuns
+pub mod JournalLemmas
+pub mod Meetings
+pub mod NameLemmas
+pub mod OrderLemmas
+pub mod PhaseLemmas
+pub mod PortLemmas
+pub mod ReceivedLemmas
+pub mod Refusals
+pub mod RoleLemmas

@@ -1,0 +1,9 @@
+pub mod SeatLemmas
+pub mod KeySteps
+pub mod KeyLemmas
+pub mod Pressing
+pub mod AllLines
+pub mod Pairs
+pub mod ConsoleEnds
+pub mod Keyboards
+pub mod LineEnd

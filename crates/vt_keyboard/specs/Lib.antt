@@ -1,0 +1,4 @@
+pub mod Operating
+pub mod Phases
+pub mod Keying
+pub mod Consoles

@@ -1,5 +1,0 @@
-use Rattle.std.proofs.Common.{length}
-use Rattle.vt_play.proofs.threads_play.+play_consoles.Given as goal
-
-abbrev pub decreases-play_consoles : goal.decreases-play_consoles
-decreases-play_consoles g l = length l.owns.items

@@ -1,9 +1,0 @@
-use Rattle.std.proofs.Common.{◌≤◌, length}
-use Rattle.vt_threads.specs.Keying.{ChangesUpTo, BeginsKeys}
-use Rattle.vt_threads.proofs.lines.begin_each.Given as goal
-
-abbrev pub invariant-loop-p : goal.invariant-loop-p
-invariant-loop-p l = record {
-  within : l.p ≤ length l.initial.lines;
-  so_far : ChangesUpTo BeginsKeys l.p l.initial.lines l.lines l.initial.ends l.ends;
-}

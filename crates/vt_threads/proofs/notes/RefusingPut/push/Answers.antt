@@ -1,5 +1,0 @@
-use Rattle.vt_threads.proofs.KeyLemmas.{stays_level}
-use Rattle.vt_threads.proofs.notes.RefusingPut.push.Goals as goal
-
-pub returns-clause-rise : goal.returns-clause-rise
-returns-clause-rise c = stays_level c.args.self.now.refused c.args.self.now.full.seen
