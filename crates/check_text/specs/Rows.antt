@@ -2,54 +2,49 @@
 use Rattle.std.specs.Prelude.{ℕ, List, [], ◌∷◌, ◌++◌, codes}
 use Rattle.session_text.specs.declared.faults.Reason.{Reason}
 use Rattle.session_text.specs.declared.faults.Reason.TheVariants.{Word, Number, Hex, Order, Limit}
-use Rattle.session_text.specs.declared.faults.BadLine.{BadLine}
-
--- a text, its first wrong line, and why that line is wrong
-pub record RefusedRow : Type 0 where
-  pub text : List ℕ
-  pub line : BadLine
+use Rattle.session_text.specs.Rows.{RefusedRow}
 
 -- one caller, which opens and reads
 abbrev pub row_session : List ℕ
 row_session = codes "tty-session 1\nports 1\nphase\ncaller a 0\nopen 0 rw\nread 0 5\nend\n"
 
-abbrev pub refused_at : ℕ → Reason → List ℕ → RefusedRow
-refused_at line reason rest = record { text = row_session ++ rest; line = record { line = line; reason = reason } }
+abbrev pub refused_behind : ℕ → Reason → List ℕ → RefusedRow
+refused_behind line reason rest = record { text = row_session ++ rest; line = record { line = line; reason = reason } }
 
 abbrev pub entry_refused : Reason → List ℕ → RefusedRow
-entry_refused reason entry = refused_at 10 reason (codes "journals\njournal 0 1\n" ++ entry)
+entry_refused reason entry = refused_behind 10 reason (codes "journals\njournal 0 1\n" ++ entry)
 
 abbrev pub refused_rows : List RefusedRow
 refused_rows =
     -- a fixed word is due
-    refused_at 8 Order (codes "") ∷
-    refused_at 9 Order (codes "# nothing") ∷
-    refused_at 8 Order (codes "journal 0 0\n") ∷
-    refused_at 8 Order (codes "end\n") ∷
-    refused_at 8 Word (codes "journals 0\n") ∷
-    refused_at 9 Order (codes "journals\n") ∷
-    refused_at 9 Order (codes "journals\njournals\n") ∷
-    refused_at 10 Order (codes "journals\njournal 0 0\nline 0 0 0 0\n") ∷
-    refused_at 11 Order (codes "journals\njournal 0 0\noverruns 0 0\ndone\n") ∷
-    refused_at 12 Order (codes "journals\njournal 0 0\noverruns 0 0\nline 0 0 0 0\njournal 1 0\n") ∷
-    refused_at 12 Order (codes "journals\njournal 0 0\noverruns 0 0\nline 0 0 0 0\n") ∷
-    refused_at 12 Word (codes "journals\njournal 0 0\noverruns 0 0\nline 0 0 0 0\ndone 0\n") ∷
-    refused_at 14 Order (codes "journals\njournal 0 0\noverruns 0 0\nline 0 0 0 0\ndone\n\ndone\n") ∷
+    refused_behind 8 Order (codes "") ∷
+    refused_behind 9 Order (codes "# nothing") ∷
+    refused_behind 8 Order (codes "journal 0 0\n") ∷
+    refused_behind 8 Order (codes "end\n") ∷
+    refused_behind 8 Word (codes "journals 0\n") ∷
+    refused_behind 9 Order (codes "journals\n") ∷
+    refused_behind 9 Order (codes "journals\njournals\n") ∷
+    refused_behind 10 Order (codes "journals\njournal 0 0\nline 0 0 0 0\n") ∷
+    refused_behind 11 Order (codes "journals\njournal 0 0\noverruns 0 0\ndone\n") ∷
+    refused_behind 12 Order (codes "journals\njournal 0 0\noverruns 0 0\nline 0 0 0 0\njournal 1 0\n") ∷
+    refused_behind 12 Order (codes "journals\njournal 0 0\noverruns 0 0\nline 0 0 0 0\n") ∷
+    refused_behind 12 Word (codes "journals\njournal 0 0\noverruns 0 0\nline 0 0 0 0\ndone 0\n") ∷
+    refused_behind 14 Order (codes "journals\njournal 0 0\noverruns 0 0\nline 0 0 0 0\ndone\n\ndone\n") ∷
     -- the words of a heading, from the left
-    refused_at 9 Number (codes "journals\njournal x\n") ∷
-    refused_at 9 Limit (codes "journals\njournal 1 x\n") ∷
-    refused_at 9 Word (codes "journals\njournal 0\n") ∷
-    refused_at 9 Number (codes "journals\njournal 0 01\n") ∷
-    refused_at 9 Limit (codes "journals\njournal 0 4294967296\n") ∷
-    refused_at 9 Word (codes "journals\njournal 0 0 0\n") ∷
-    refused_at 10 Order (codes "journals\njournal 0 4294967295\n") ∷
+    refused_behind 9 Number (codes "journals\njournal x\n") ∷
+    refused_behind 9 Limit (codes "journals\njournal 1 x\n") ∷
+    refused_behind 9 Word (codes "journals\njournal 0\n") ∷
+    refused_behind 9 Number (codes "journals\njournal 0 01\n") ∷
+    refused_behind 9 Limit (codes "journals\njournal 0 4294967296\n") ∷
+    refused_behind 9 Word (codes "journals\njournal 0 0 0\n") ∷
+    refused_behind 10 Order (codes "journals\njournal 0 4294967295\n") ∷
     -- overruns, and the numbers of the line
-    refused_at 11 Word (codes "journals\njournal 0 0\noverruns 0 1\n1 2\n") ∷
-    refused_at 11 Number (codes "journals\njournal 0 0\noverruns 0 1\n1 x 3\n") ∷
-    refused_at 11 Limit (codes "journals\njournal 0 0\noverruns 0 1\n1 2 4294967296\n") ∷
-    refused_at 11 Word (codes "journals\njournal 0 0\noverruns 0 1\n1 2 3 4\n") ∷
-    refused_at 11 Word (codes "journals\njournal 0 0\noverruns 0 0\nline 0 1 2\n") ∷
-    refused_at 11 Limit (codes "journals\njournal 0 0\noverruns 0 0\nline 1 1 2 3\n") ∷
+    refused_behind 11 Word (codes "journals\njournal 0 0\noverruns 0 1\n1 2\n") ∷
+    refused_behind 11 Number (codes "journals\njournal 0 0\noverruns 0 1\n1 x 3\n") ∷
+    refused_behind 11 Limit (codes "journals\njournal 0 0\noverruns 0 1\n1 2 4294967296\n") ∷
+    refused_behind 11 Word (codes "journals\njournal 0 0\noverruns 0 1\n1 2 3 4\n") ∷
+    refused_behind 11 Word (codes "journals\njournal 0 0\noverruns 0 0\nline 0 1 2\n") ∷
+    refused_behind 11 Limit (codes "journals\njournal 0 0\noverruns 0 0\nline 1 1 2 3\n") ∷
     -- WHO and the numbers of an entry
     entry_refused Word (codes "b 0 0 0 wait\n") ∷
     entry_refused Word (codes "A 0 0 0 wait\n") ∷

@@ -3,21 +3,12 @@
 
 ghost use Rattle.std.specs.Prelude.{◌≡◌};
 
-use crate::answers::Wanted;
-use crate::ports::{Step, tries};
+use crate::ports::{OPEN, READ, Step};
+use row_tables::{NOTHING_COUNTED, Wanted};
 use std::alloc::Global;
-use std::test::Fail;
 use tty_base::{Counts, Errno, Flag, NoMemory};
-use tty_calls::{Access, Call};
+use tty_calls::Call;
 use tty_device::{Account, Both, Device, Line};
-
-const OPEN: Call<'static> = Call::Open {
-    h: 0,
-    access: Access::Rw,
-    nonblock: false,
-};
-
-const READ: Call<'static> = Call::Read { h: 0, n: 64 };
 
 /// A change to N_SLIP and back. What waits in the flip buffer stays; what a discipline holds goes with it.
 const CHANGES: &[Step<'static>] = &[
@@ -57,16 +48,9 @@ const CHANGES: &[Step<'static>] = &[
         0,
         Call::Counts { h: 0 },
         Wanted::Counts(Counts {
-            mark: 0,
-            parity: 0,
-            frame: 0,
-            breaks: 0,
-            cut: 0,
-            echo: 0,
             pin: 2,
             pout: 1,
-            pbad: 0,
-            pfull: 0,
+            ..NOTHING_COUNTED
         }),
     ),
     Step::Feeds(9, 0),
@@ -107,27 +91,13 @@ const FULL: &[Step<'static>] = &[
     Step::Tells(66, 0, 0),
 ];
 
-#[test]
-fn disciplines_change(rt: HostRuntime) -> Result<(), Fail> {
-    tries(&rt, rt.alloc(), CHANGES)
-}
+/// A port without its line takes nothing in.
+const WITHOUT_LINE: &[Step<'static>] = &[
+    Step::TakesIn(1, b"a", Flag::Normal, None),
+    Step::Tells(0, 0, 0),
+];
 
-#[test]
-fn a_hangup_drops_what_waits(rt: HostRuntime) -> Result<(), Fail> {
-    tries(&rt, rt.alloc(), HANGUP)
-}
-
-#[test]
-fn a_full_buffer_refuses(rt: HostRuntime) -> Result<(), Fail> {
-    tries(&rt, rt.alloc(), FULL)
-}
-
-fn moves<T: Send>() {}
-
-#[test]
-fn the_putting_end_crosses_threads() {
-    moves::<Line>();
-}
+pub(crate) const ROWS: [&[Step<'static>]; 4] = [CHANGES, HANGUP, FULL, WITHOUT_LINE];
 
 /// Whether both ends of a closed port tell of three characters what they are to tell, before a hangup and after it.
 fn tell_together(device: &mut Device, line: &mut Line) -> Result<bool, NoMemory>
@@ -153,9 +123,19 @@ fn with(dropped: u64, waiting: u64) -> Both {
     }
 }
 
+/// Whether both ends of a new port tell so.
+fn new_ends_tell_together(alloc: Global) -> Result<bool, NoMemory> {
+    let (mut device, mut line) = Device::new(alloc, 1, 0)?;
+    let tell = tell_together(&mut device, &mut line);
+    drop(device);
+    tell
+}
+
+/// For a value that may go to another thread.
+fn moves<T: Send>() {}
+
 #[test]
-fn both_ends_tell_together(rt: HostRuntime) -> Result<(), Fail> {
-    let (mut device, mut line) = Device::new(rt.alloc(), 1, 0)?;
-    assert!(rt; tell_together(&mut device, &mut line)?);
-    Ok(())
+fn both_ends_tell_together(rt: HostRuntime) {
+    moves::<Line>();
+    assert!(rt; new_ends_tell_together(rt.alloc()) == Ok(true));
 }

@@ -1,32 +1,11 @@
 //! Calls of two callers, with characters between them.
 
-use crate::answers::Wanted;
-use crate::ports::{Step, tries};
-use std::test::Fail;
+use crate::ports::{OPEN, READ, Step};
+use row_tables::{NOTHING_COUNTED, Wanted};
 use tty_base::{Counts, Errno, Flag, Signal};
 use tty_calls::{Access, Act, Call, Queue, When};
 use tty_modes::Word;
 use tty_modes::places::{ECHO, ICANON, VMIN, VTIME};
-
-/// What has counted nothing.
-const NOTHING: Counts = Counts {
-    mark: 0,
-    parity: 0,
-    frame: 0,
-    breaks: 0,
-    cut: 0,
-    echo: 0,
-    pin: 0,
-    pout: 0,
-    pbad: 0,
-    pfull: 0,
-};
-
-const OPEN: Call<'static> = Call::Open {
-    h: 0,
-    access: Access::Rw,
-    nonblock: false,
-};
 
 /// An open of a second number, whose calls do not wait.
 const OPEN_1: Call<'static> = Call::Open {
@@ -34,8 +13,6 @@ const OPEN_1: Call<'static> = Call::Open {
     access: Access::Rw,
     nonblock: true,
 };
-
-const READ: Call<'static> = Call::Read { h: 0, n: 64 };
 
 /// Input that is read, echoed and written, a signal, and modes.
 const INPUT: &[Step<'static>] = &[
@@ -81,7 +58,7 @@ const INPUT: &[Step<'static>] = &[
         Call::Counts { h: 0 },
         Wanted::Counts(Counts {
             parity: 1,
-            ..NOTHING
+            ..NOTHING_COUNTED
         }),
     ),
     Step::Feeds(7, 0),
@@ -165,6 +142,7 @@ const TWO_CALLERS: &[Step<'static>] = &[
     Step::Calls(0, READ, Wanted::Refused(Errno::EBADF)),
     Step::Calls(0, READ, Wanted::Waits),
     Step::Calls(1, Call::Vhangup { h: 1 }, Wanted::Done),
+    Step::Calls(1, OPEN_1, Wanted::Refused(Errno::EEXIST)),
     Step::Calls(0, READ, Wanted::Got(b"")),
     Step::Calls(
         0,
@@ -210,22 +188,4 @@ const TIMES: &[Step<'static>] = &[
     Step::Calls(0, READ, Wanted::Got(b"")),
 ];
 
-#[test]
-fn input_is_read_and_echoed(rt: HostRuntime) -> Result<(), Fail> {
-    tries(&rt, rt.alloc(), INPUT)
-}
-
-#[test]
-fn output_is_held_and_input_dropped(rt: HostRuntime) -> Result<(), Fail> {
-    tries(&rt, rt.alloc(), OUTPUT)
-}
-
-#[test]
-fn two_callers_wait_for_one_another(rt: HostRuntime) -> Result<(), Fail> {
-    tries(&rt, rt.alloc(), TWO_CALLERS)
-}
-
-#[test]
-fn a_read_waits_by_the_clock(rt: HostRuntime) -> Result<(), Fail> {
-    tries(&rt, rt.alloc(), TIMES)
-}
+pub(crate) const ROWS: [&[Step<'static>]; 4] = [INPUT, OUTPUT, TWO_CALLERS, TIMES];

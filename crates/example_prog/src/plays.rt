@@ -4,7 +4,7 @@ use crate::files::Example;
 use std::alloc::{AllocError, Global};
 use std::sync::Wait;
 use std::thread::Threads;
-use tty_rows::{told_of, told_on_threads, with_journals};
+use tty_rows::{are_legal, told_of, told_on_threads};
 
 /// The examples whose report no schedule can change. In each of their phases there is one caller, or a line
 /// alone, or a caller who waits for the line.
@@ -24,16 +24,27 @@ pub(crate) fn fault_of<R: Threads + Wait + Sync>(
     alloc: Global,
     example: &Example,
 ) -> Result<Option<&'static str>, AllocError> {
-    let report = example.report.as_slice();
-    if CONSOLES.contains(&example.name.as_str()) {
+    let name = example.name.as_str();
+    if CONSOLES.contains(&name) {
         return fault_of_consoles(rt, alloc, example);
     }
-    if MODEM_LINES.contains(&example.name.as_str()) {
+    if MODEM_LINES.contains(&name) {
         return fault_alone(alloc, &["modem"], example);
     }
-    if PROCESSES.contains(&example.name.as_str()) {
+    if PROCESSES.contains(&name) {
         return fault_alone(alloc, &["jobs"], example);
     }
+    fault_of_ports(rt, alloc, example)
+}
+
+/// Likewise, of an example that is a session of ports alone.
+fn fault_of_ports<R: Threads + Wait + Sync>(
+    rt: &R,
+    alloc: Global,
+    example: &Example,
+) -> Result<Option<&'static str>, AllocError> {
+    let report = example.report.as_slice();
+    let session = example.session.as_str();
     let told = told_of(alloc, &["run", "--one"], text_of(alloc, example)?)?;
     if told.text.as_slice() != report {
         return Ok(Some("another report"));
@@ -50,11 +61,11 @@ pub(crate) fn fault_of<R: Threads + Wait + Sync>(
             return Ok(Some("another journal"));
         }
     }
-    if !is_legal(alloc, example, told.text.as_slice())? {
+    if !are_legal(alloc, session, told.text.as_slice())? {
         return Ok(Some("not legal on one thread"));
     }
     let told = told_on_threads(rt, alloc, &["run", "--journal"], text_of(alloc, example)?)?;
-    if !is_legal(alloc, example, told.text.as_slice())? {
+    if !are_legal(alloc, session, told.text.as_slice())? {
         return Ok(Some("not legal on threads"));
     }
     Ok(None)
@@ -88,11 +99,4 @@ fn fault_alone(
 
 fn text_of(alloc: Global, example: &Example) -> Result<Vec<u8>, AllocError> {
     example.session.as_bytes().to_vec(alloc)
-}
-
-/// The journals in what was told of an example are legal.
-fn is_legal(alloc: Global, example: &Example, told: &[u8]) -> Result<bool, AllocError> {
-    let text = with_journals(alloc, example.session.as_str(), told)?;
-    let judged = told_of(alloc, &["check"], text)?;
-    Ok(judged.text.as_slice() == b"legal\n".as_slice())
 }

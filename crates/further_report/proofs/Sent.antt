@@ -7,7 +7,8 @@ use Rattle.job_control.specs.declared.answers.Target.{Target}
 use Rattle.job_control.specs.declared.answers.Target.TheVariants.{Group, Process, Nobody}
 use Rattle.job_control.specs.declared.processes.JobSignal.{JobSignal}
 use Rattle.job_control.specs.declared.processes.Proc.{Proc}
-use Rattle.job_print.specs.Lines.{name_at, newline, signal_line, signal_text}
+use Rattle.job_print.specs.Lines.{name_at, signal_line, signal_text}
+use Rattle.session_print.specs.Lines.{newline}
 use Rattle.passed_calls.specs.declared.logs.Logged.{Logged}
 use Rattle.job_text.specs.declared.logs.JobEvent.{JobEvent as KeptJob}
 use Rattle.job_text.specs.declared.sessions.PortProc.{PortProc}

@@ -1,5 +1,5 @@
 -- Worked sessions of processes, and their reports.
-use Rattle.std.specs.Prelude.{ℕ, true, false, Option, None, Some, List, [], ◌∷◌, ◌++◌, codes}
+use Rattle.std.specs.Prelude.{ℕ, true, Option, None, Some, List, [], ◌∷◌, ◌++◌, codes}
 use Rattle.tty_base.specs.declared.characters.Flag.TheVariants.{Normal}
 use Rattle.tty_base.specs.declared.counters.Errno.TheVariants.{EAGAIN, EIO}
 use Rattle.tty_base.specs.declared.counters.Signal.TheVariants as raised
@@ -13,7 +13,6 @@ use Rattle.tty_calls.specs.Plain.{PlainEntry, opens, reads, writes, sets_modes, 
 use Rattle.job_control.specs.declared.answers.JobAnswer.TheVariants as told
 use Rattle.job_control.specs.declared.answers.Target.TheVariants as towards
 use Rattle.job_control.specs.declared.processes.JobSignal.TheVariants.{Int, Ttin, Hup}
-use Rattle.job_control.specs.declared.processes.Proc.{Proc}
 use Rattle.passed_calls.specs.declared.logs.Logged.{Logged}
 use Rattle.passed_calls.specs.Scripts.{plain, further}
 use Rattle.job_text.specs.declared.calls.OwnCall.TheVariants as call
@@ -21,28 +20,7 @@ use Rattle.job_text.specs.Events.{JobEvent, JobLog, own, passed, passed_down, se
 use Rattle.job_text.specs.Sessions.{JobCall, JobsPhase, JobsSession}
 use Rattle.further_report.specs.Jobs.{jobs_report_text}
 use Rattle.further_report.specs.Rows.{end_with, port_head, run_with}
-
-abbrev pub shell : Proc
-shell = record {
-  name = record { bytes = codes "sh"; spare = [] };
-  session = 1;
-  group = 1;
-  parent = None;
-  leader = true;
-  nottin = false;
-  nottou = false;
-}
-
-abbrev pub job_of : (parent : Option ℕ) → Proc
-job_of parent = record {
-  name = record { bytes = codes "job"; spare = [] };
-  session = 1;
-  group = 2;
-  parent = parent;
-  leader = false;
-  nottin = false;
-  nottou = false;
-}
+use Rattle.job_control.specs.Rows.{shell, job_of}
 
 abbrev pub phase_with : List LineStep → (name : List ℕ) → List JobCall → JobsPhase
 phase_with line name calls =

@@ -1,19 +1,10 @@
-//! Tables of what the lists, streams, modes, calls and the receiver do, as tests of what no clause says: that
-//! calls succeed where memory is ample, that a failing stream is told, and worked values from outside. Nothing
-//! stands on this crate.
+//! Worked values of the streams, the mode words and the receiver's registers, as tests of what no clause says: that a
+//! failing stream is told, and what the data sheet has. Nothing stands on this crate.
 #![tactic(auto)]
 
-#[cfg(test)]
-mod calls;
-#[cfg(test)]
-mod lines;
 #[cfg(test)]
 mod modes;
 #[cfg(test)]
 mod registers;
-#[cfg(test)]
-mod runs;
-#[cfg(test)]
-mod steps;
 #[cfg(test)]
 mod streams;

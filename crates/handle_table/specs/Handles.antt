@@ -1,6 +1,7 @@
 -- The handles of a port: a map from the numbers 0 to 31.
 use Rattle.std.specs.Prelude.{◌≡◌, ℕ, length, Bool, true, false, Option, Some, None}
 use Rattle.std.specs.Prelude.{List, slice_index_or, slice_set, map, replicate, count_by}
+use Rattle.tty_base.specs.Sizes.{MOST_HANDLES}
 use Rattle.tty_calls.specs.declared.calls.Access.{Access}
 use Rattle.handle_table.specs.declared.HandleState.{HandleState}
 
@@ -9,7 +10,7 @@ abbrev pub HandleMap : Type 0
 HandleMap = List (Option HandleState)
 
 abbrev pub no_handles : HandleMap
-no_handles = replicate 32 None
+no_handles = replicate MOST_HANDLES None
 
 abbrev pub handle_at : HandleMap → ℕ → Option HandleState
 handle_at handles h = slice_index_or handles h None
@@ -38,7 +39,7 @@ is_live (Some handle) = handle.live
 abbrev pub live_count : HandleMap → ℕ
 live_count handles = count_by is_live handles
 
--- there are 32 slots, and the number that is kept is that of the live handles in them
+-- each number has a slot, and the number that is kept is that of the live handles in them
 pub record IsTable (slots : HandleMap) (live : ℕ) : Type 0 where
-  pub numbers : length slots ≡ 32
+  pub numbers : length slots ≡ MOST_HANDLES
   pub live_is : live ≡ live_count slots

@@ -2,14 +2,13 @@
 #![tactic(auto)]
 
 ghost use Rattle.std.specs.Prelude.{◌≡◌, ◌<◌, ◌≤◌, is_some, is_none, length, if◌then◌else◌};
+ghost use Rattle.tty_base.specs.Sizes.{MOST_HANDLES};
 ghost use Rattle.handle_table.specs.Handles.{no_handles, handle_at, with_handle, without_handle};
 ghost use Rattle.handle_table.specs.Handles.{handle_after_hangup, after_hangup, live_count};
 
 use std::marker::Model;
+use tty_base::sizes::MOST_HANDLES;
 use tty_calls::Access;
-
-/// How many numbers there are.
-const NUMBERS: usize = 32;
 
 /// One open of a port (open(2)).
 #[derive(Clone, Copy, Debug, PartialEq, Eq)]
@@ -25,7 +24,7 @@ pub struct HandleState {
 /// The handles of a port, by their numbers from 0 to 31. No call takes memory.
 #[derive(Drop)]
 pub struct Handles {
-    slots: [Option<HandleState>; NUMBERS],
+    slots: [Option<HandleState>; MOST_HANDLES as usize],
     live: usize,
 }
 
@@ -45,7 +44,7 @@ impl Handles {
         ensures { result ≡ no_handles }
     {
         Handles {
-            slots: [None; NUMBERS],
+            slots: [None; MOST_HANDLES as usize],
             live: 0,
         }
     }
@@ -53,7 +52,7 @@ impl Handles {
     /// Opens a live handle of a number that is not in use. False says that it is in use, by a live handle or
     /// by a dead one, and nothing changes then.
     pub fn admit(&mut self, h: u8, access: Access, nonblock: bool) -> bool
-        requires { h < 32 }
+        requires { h < MOST_HANDLES }
         ensures free { result ≡ is_none (handle_at self.old h) }
         ensures after { self.new ≡ (if result then with_handle self.old h access nonblock else self.old) }
     {
@@ -98,7 +97,7 @@ impl Handles {
     /// The handle of a number, or None where it is not in use.
     pub fn state(&self, h: u8) -> Option<HandleState>
         ensures state { result ≡ handle_at self.now h }
-        ensures numbers { length self.now ≡ 32 }
+        ensures numbers { length self.now ≡ MOST_HANDLES }
     {
         self.slots.get(usize::from(h)).copied().flatten()
     }
@@ -106,7 +105,7 @@ impl Handles {
     /// How many handles are live.
     pub fn live(&self) -> usize
         ensures count { result ≡ live_count self.now }
-        ensures few { result ≤ 32 }
+        ensures few { result ≤ MOST_HANDLES }
     {
         self.live
     }

@@ -4,14 +4,8 @@ use super::tables::{CHECK, ONE};
 use std::alloc::{AllocError, Global};
 use std::process::Abort;
 use std::test::Fail;
-use tty_rows::told_of;
-
-/// Three bytes are read, and the port is closed; and the journal of that.
-const SESSION: &[u8] =
-    b"tty-session 1\nports 1\nphase\ncaller a 0\nopen 0 rw nonblock\nmodes 0 now raw\nphase\nline 0\nrx 68690a\ncaller a 0\nread 0 64\nclose 0\nend\n";
-
-const JOURNALS: &[u8] =
-    b"journals\njournal 0 14\n*line 0 0 0 line_end 0\na 0 0 0 answer ok\na 1 0 0 answer ok\na 2 0 0 caller_end\n*clock 0 0 0 clock_end\n*session 0 0 0 phase_end\n*flush 0 0 0 flush n68n69n0a\n*line 1 0 0 line_end 3\na 2 0 0 answer 3 68690a\na 3 0 0 answer ok\na 4 0 1 caller_end\n*clock 1 0 1 clock_end\n*session 1 0 1 phase_end\n*session 2 0 1 hangup -\noverruns 0 0\nline 0 3 0 3\ndone\n";
+use tty_rows::three_bytes::{JOURNALS, SESSION};
+use tty_rows::{status_of, told_of};
 
 /// These pieces in one text.
 fn joined(alloc: Global, pieces: &[&[u8]]) -> Result<Vec<u8>, AllocError> {
@@ -20,12 +14,6 @@ fn joined(alloc: Global, pieces: &[&[u8]]) -> Result<Vec<u8>, AllocError> {
         text.extend_from_slice(piece)?;
     }
     Ok(text)
-}
-
-/// With which status a text ends that is made of these pieces.
-fn status_of(alloc: Global, words: &[&str], pieces: &[&[u8]]) -> Result<u8, AllocError> {
-    let told = told_of(alloc, words, joined(alloc, pieces)?)?;
-    Ok(told.status)
 }
 
 /// Whether a text is refused at this line.
@@ -75,9 +63,9 @@ fn are_refused_with(rt: &impl Abort, alloc: Global, words: &[&str], text: &[u8],
 
 #[test]
 fn no_text_has_a_byte_0_or_255(rt: HostRuntime) -> Result<(), Fail> {
-    let checked = joined(rt.alloc(), &[SESSION, JOURNALS])?;
+    let checked = joined(rt.alloc(), &[SESSION.as_bytes(), JOURNALS.as_bytes()])?;
     for byte in [0, 255] {
-        are_refused_with(&rt, rt.alloc(), ONE, SESSION, byte);
+        are_refused_with(&rt, rt.alloc(), ONE, SESSION.as_bytes(), byte);
         are_refused_with(&rt, rt.alloc(), CHECK, checked.as_slice(), byte);
     }
     Ok(())
@@ -86,11 +74,8 @@ fn no_text_has_a_byte_0_or_255(rt: HostRuntime) -> Result<(), Fail> {
 /// The status of the session between two comments with this byte.
 fn status_between(alloc: Global, byte: u8) -> Result<u8, AllocError> {
     let comment = [b'#', b' ', byte, b' ', b'#', b'\n'];
-    status_of(
-        alloc,
-        ONE,
-        &[comment.as_slice(), SESSION, comment.as_slice()],
-    )
+    let pieces = [comment.as_slice(), SESSION.as_bytes(), comment.as_slice()];
+    status_of(alloc, ONE, joined(alloc, &pieces)?)
 }
 
 #[test]
@@ -120,17 +105,29 @@ fn blank_tab_and_cr_alone_part_words(rt: HostRuntime) {
     }
 }
 
+/// Whether a text is refused at this length, behind another.
+fn is_refused_cut<'a>(
+    alloc: Global,
+    words: &[&str],
+    before: &'a str,
+    text: &'a str,
+    length: usize,
+) -> Result<bool, AllocError> {
+    let front = text.as_bytes().get(..length).unwrap_or(b"");
+    let status = status_of(alloc, words, joined(alloc, &[before.as_bytes(), front])?)?;
+    Ok(status == 1)
+}
+
 /// Behind a text another is refused at each length. Without its last line feed it is whole.
-fn are_refused_cut(rt: &impl Abort, alloc: Global, words: &[&str], before: &[u8], text: &[u8]) {
+fn are_refused_cut(rt: &impl Abort, alloc: Global, words: &[&str], before: &str, text: &str) {
     for length in 0..text.len().saturating_sub(1) {
-        let (front, _) = text.split_at(length);
-        let status = status_of(alloc, words, &[before, front]);
-        assert!(rt; status == Ok(1), "at {length}");
+        let refused = is_refused_cut(alloc, words, before, text, length);
+        assert!(rt; refused == Ok(true), "at {length}");
     }
 }
 
 #[test]
 fn a_text_that_is_cut_is_refused(rt: HostRuntime) {
-    are_refused_cut(&rt, rt.alloc(), ONE, b"", SESSION);
+    are_refused_cut(&rt, rt.alloc(), ONE, "", SESSION);
     are_refused_cut(&rt, rt.alloc(), CHECK, SESSION, JOURNALS);
 }

@@ -185,14 +185,22 @@ word a 3 0 0 answer
 word a 3 0 0 answer ok
 word a 3 0 0 answer 0
 word a 3 0 0 answer icanon
-word a 3 0 0 answer quit=28 erase=127 kill=21 eof=4 time=0 min=1 start=17 stop=19 susp=26 eol=0 reprint=18 werase=23 lnext=22 eol2=0
-word a 3 0 0 answer intr=3 quit=28 erase=127 kill=21 eof=4 time=0 min=1 start=17 stop=19 susp=26 eol=0 reprint=18 werase=23 lnext=22
-word a 3 0 0 answer ixon icrnl intr=3 quit=28 erase=127 kill=21 eof=4 time=0 min=1 start=17 stop=19 susp=26 eol=0 reprint=18 werase=23 lnext=22 eol2=0
-word a 3 0 0 answer -icanon intr=3 quit=28 erase=127 kill=21 eof=4 time=0 min=1 start=17 stop=19 susp=26 eol=0 reprint=18 werase=23 lnext=22 eol2=0
-word a 3 0 0 answer other intr=3 quit=28 erase=127 kill=21 eof=4 time=0 min=1 start=17 stop=19 susp=26 eol=0 reprint=18 werase=23 lnext=22 eol2=0
-word a 3 0 0 answer intr=3 quit=28 erase=127 kill=21 eof=4 time=0 min=256 start=17 stop=19 susp=26 eol=0 reprint=18 werase=23 lnext=22 eol2=0
-word a 3 0 0 answer intr=3 quit=28 erase=127 kill=21 eof=4 time=0 min=1 start=17 stop=19 susp=26 eol=0 reprint=18 werase=23 lnext=22 eol2=0 icanon
-word a 3 0 0 answer intr=3 quit=28 erase=127 kill=21 eof=4 time=0 min=1 start=17 stop=19 susp=26 eol=0 reprint=18 werase=23 lnext=22 eol2=0 x
+word a 3 0 0 answer quit=28 erase=127 kill=21 eof=4 time=0 min=1 start=17 stop=19 susp=26 eol=0 reprint=18 werase=23 \
+lnext=22 eol2=0
+word a 3 0 0 answer intr=3 quit=28 erase=127 kill=21 eof=4 time=0 min=1 start=17 stop=19 susp=26 eol=0 reprint=18 \
+werase=23 lnext=22
+word a 3 0 0 answer ixon icrnl intr=3 quit=28 erase=127 kill=21 eof=4 time=0 min=1 start=17 stop=19 susp=26 eol=0 \
+reprint=18 werase=23 lnext=22 eol2=0
+word a 3 0 0 answer -icanon intr=3 quit=28 erase=127 kill=21 eof=4 time=0 min=1 start=17 stop=19 susp=26 eol=0 \
+reprint=18 werase=23 lnext=22 eol2=0
+word a 3 0 0 answer other intr=3 quit=28 erase=127 kill=21 eof=4 time=0 min=1 start=17 stop=19 susp=26 eol=0 \
+reprint=18 werase=23 lnext=22 eol2=0
+word a 3 0 0 answer intr=3 quit=28 erase=127 kill=21 eof=4 time=0 min=256 start=17 stop=19 susp=26 eol=0 reprint=18 \
+werase=23 lnext=22 eol2=0
+word a 3 0 0 answer intr=3 quit=28 erase=127 kill=21 eof=4 time=0 min=1 start=17 stop=19 susp=26 eol=0 reprint=18 \
+werase=23 lnext=22 eol2=0 icanon
+word a 3 0 0 answer intr=3 quit=28 erase=127 kill=21 eof=4 time=0 min=1 start=17 stop=19 susp=26 eol=0 reprint=18 \
+werase=23 lnext=22 eol2=0 x
 word a 4 0 0 answer
 word a 4 0 0 answer ok
 word a 4 0 0 answer x

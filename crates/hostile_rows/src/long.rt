@@ -2,7 +2,7 @@
 
 use super::tables::{CHECK, ONE, texts_are_refused};
 use std::alloc::{AllocError, Global};
-use tty_rows::{told_of, written_out};
+use tty_rows::{status_of, written_out};
 
 /// Long texts, each behind its first wrong line and the reason: lines of one byte, of blanks, of words; line feeds;
 /// comments; then words, digits and names without end.
@@ -46,9 +46,9 @@ fn long_texts_are_refused(rt: HostRuntime) {
     texts_are_refused(&rt, rt.alloc(), CHECK, SESSION, LONG_JOURNALS);
 }
 
-fn status_of(alloc: Global, text: &str) -> Result<u8, AllocError> {
-    let told = told_of(alloc, ONE, written_out(alloc, text)?)?;
-    Ok(told.status)
+fn is_good(alloc: Global, text: &str) -> Result<bool, AllocError> {
+    let status = status_of(alloc, ONE, written_out(alloc, text)?)?;
+    Ok(status == 0)
 }
 
 /// A session may have long comments, many blank lines, and blanks without end.
@@ -56,5 +56,5 @@ fn status_of(alloc: Global, text: &str) -> Result<u8, AllocError> {
 fn long_texts_that_say_little_are_good(rt: HostRuntime) {
     let text =
         "#[ a*32768]|[|*65536]tty-session[ *65536]1|[#|*32768]\tports 1[\t*65536]|end[\r|*32768]";
-    assert!(rt; status_of(rt.alloc(), text) == Ok(0));
+    assert!(rt; is_good(rt.alloc(), text) == Ok(true));
 }

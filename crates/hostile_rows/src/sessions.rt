@@ -26,34 +26,9 @@ order end
 order line 0
 order clock 0
 order caller a 0
-order rx 61
-order rxp 61
-order rxf 61
-order break
-order mask
-order unmask
-order idle 1
-order trigger 1
+order {line items}
 order tick 1
-order open 0 rw
-order close 0
-order read 0 1
-order write 0 61
-order getm 0
-order modes 0 now raw
-order getd 0
-order setd 0 1
-order flush 0 in
-order xonc 0 ooff
-order inq 0
-order outq 0
-order excl 0
-order nxcl 0
-order drain 0
-order counts 0
-order vhangup 0
-order send 0 61
-order take 0
+order {calls}
 word other
 word port 1
 word flip 0 64
@@ -80,34 +55,9 @@ order clock 0
 order caller a 0
 order line
 order caller
-order rx 61
-order rxp 61
-order rxf 61
-order break
-order mask
-order unmask
-order idle 1
-order trigger 1
+order {line items}
 order tick 1
-order open 0 rw
-order close 0
-order read 0 1
-order write 0 61
-order getm 0
-order modes 0 now raw
-order getd 0
-order setd 0 1
-order flush 0 in
-order xonc 0 ooff
-order inq 0
-order outq 0
-order excl 0
-order nxcl 0
-order drain 0
-order counts 0
-order vhangup 0
-order send 0 61
-order take 0
+order {calls}
 order read
 word other
 word phases
@@ -118,36 +68,11 @@ word end 1
 = 4 tty-session 1|ports 1|phase|
 order tty-session 1
 order ports 1
-order rx 61
-order rxp 61
-order rxf 61
-order break
-order mask
-order unmask
-order idle 1
-order trigger 1
+order {line items}
 order rx
 order tick 1
 order tick
-order open 0 rw
-order close 0
-order read 0 1
-order write 0 61
-order getm 0
-order modes 0 now raw
-order getd 0
-order setd 0 1
-order flush 0 in
-order xonc 0 ooff
-order inq 0
-order outq 0
-order excl 0
-order nxcl 0
-order drain 0
-order counts 0
-order vhangup 0
-order send 0 61
-order take 0
+order {calls}
 order read 0
 order read
 word other
@@ -185,25 +110,7 @@ order ports 1
 order line 0
 order tick 1
 order tick
-order open 0 rw
-order close 0
-order read 0 1
-order write 0 61
-order getm 0
-order modes 0 now raw
-order getd 0
-order setd 0 1
-order flush 0 in
-order xonc 0 ooff
-order inq 0
-order outq 0
-order excl 0
-order nxcl 0
-order drain 0
-order counts 0
-order vhangup 0
-order send 0 61
-order take 0
+order {calls}
 order read 0
 order read
 word other
@@ -254,34 +161,9 @@ limit trigger 15
 order tty-session 1
 order ports 1
 order clock 0
-order rx 61
-order rxp 61
-order rxf 61
-order break
-order mask
-order unmask
-order idle 1
-order trigger 1
+order {line items}
 order rx
-order open 0 rw
-order close 0
-order read 0 1
-order write 0 61
-order getm 0
-order modes 0 now raw
-order getd 0
-order setd 0 1
-order flush 0 in
-order xonc 0 ooff
-order inq 0
-order outq 0
-order excl 0
-order nxcl 0
-order drain 0
-order counts 0
-order vhangup 0
-order send 0 61
-order take 0
+order {calls}
 order read
 word other
 word clock 0 0
@@ -302,14 +184,7 @@ order ports 1
 order caller a 0
 order tick 1
 order tick
-order rx 61
-order rxp 61
-order rxf 61
-order break
-order mask
-order unmask
-order idle 1
-order trigger 1
+order {line items}
 order rx
 word other
 word caller a 0 0
@@ -447,34 +322,9 @@ order end
 order line 0
 order clock 0
 order caller a 0
-order rx 61
-order rxp 61
-order rxf 61
-order break
-order mask
-order unmask
-order idle 1
-order trigger 1
+order {line items}
 order tick 1
-order open 0 rw
-order close 0
-order read 0 1
-order write 0 61
-order getm 0
-order modes 0 now raw
-order getd 0
-order setd 0 1
-order flush 0 in
-order xonc 0 ooff
-order inq 0
-order outq 0
-order excl 0
-order nxcl 0
-order drain 0
-order counts 0
-order vhangup 0
-order send 0 61
-order take 0
+order {calls}
 order read
 order end 1
 word other
@@ -530,12 +380,37 @@ const WITHOUT_END: &str = "\
 4 order tty-session 2|ports 1|flip 0 64|
 ";
 
-/// Totals that are passed by one. Those of steps and characters are in `tools/hostile_texts`.
-const PASSED_TOTALS: &str = "\
+/// Totals that are passed by one.
+const PASSED: &str = "\
 67 limit tty-session 1|ports 1|[phase|*65]
-20 limit tty-session 1|ports 1|phase|caller c0 0|caller c1 0|caller c2 0|caller c3 0|caller c4 0|caller c5 0|caller c6 0|caller c7 0|caller c8 0|caller c9 0|caller c10 0|caller c11 0|caller c12 0|caller c13 0|caller c14 0|caller c15 0|caller d 0|
+65541 limit tty-session 1|ports 1|phase|caller a 0|[close 0|*65537]
+32773 limit tty-session 1|ports 1|phase|line 0|[rx 4142434445464748|*32769]
+5 limit tty-session 1|ports 1|phase|line 0|rx [41*262145]|
+20 limit tty-session 1|ports 1|phase|caller c0 0|caller c1 0|caller c2 0|caller c3 0|caller c4 0|caller c5 0|\
+caller c6 0|caller c7 0|caller c8 0|caller c9 0|caller c10 0|caller c11 0|caller c12 0|caller c13 0|caller c14 0|\
+caller c15 0|caller d 0|
+36 limit tty-session 1|ports 2|phase|caller c0 0|caller c1 0|caller c2 0|caller c3 0|caller c4 0|caller c5 0|\
+caller c6 0|caller c7 0|caller c8 0|caller c9 0|caller c10 0|caller c11 0|caller c12 0|caller c13 0|caller c14 0|\
+caller c15 0|caller c0 1|caller c1 1|caller c2 1|caller c3 1|caller c4 1|caller c5 1|caller c6 1|caller c7 1|\
+caller c8 1|caller c9 1|caller c10 1|caller c11 1|caller c12 1|caller c13 1|caller c14 1|caller c15 1|caller c16 0|
 6 limit tty-session 1|ports 1|phase|clock 0|tick 65536|tick 1|
+21 limit tty-session 1|ports 1|phase|clock 0|[tick 4096|*17]
 8 limit tty-session 1|ports 1|phase|clock 0|tick 65536|phase|clock 0|tick 1|
+";
+
+/// Limits that are reached. Where journals are due behind a session, a good one is wrong at the line after its end.
+const REACHED: &str = "\
+68 order tty-session 1|ports 1|[phase|*64]end|
+65542 order tty-session 1|ports 1|phase|caller a_34567890123456 0|[close 0|*65536]end|
+32774 order tty-session 1|ports 1|phase|line 0|[rx 4142434445464748|*32768]end|
+7 order tty-session 1|ports 1|phase|line 0|rx [41*262144]|end|
+37 order tty-session 1|ports 2|phase|caller c0 0|caller c1 0|caller c2 0|caller c3 0|caller c4 0|caller c5 0|\
+caller c6 0|caller c7 0|caller c8 0|caller c9 0|caller c10 0|caller c11 0|caller c12 0|caller c13 0|caller c14 0|\
+caller c15 0|caller c0 1|caller c1 1|caller c2 1|caller c3 1|caller c4 1|caller c5 1|caller c6 1|caller c7 1|\
+caller c8 1|caller c9 1|caller c10 1|caller c11 1|caller c12 1|caller c13 1|caller c14 1|caller c15 1|end|
+22 order tty-session 1|ports 1|phase|clock 0|[tick 4096|*16]end|
+7 order tty-session 1|ports 1|phase|caller a 0|write 0 [61*65536]|end|
+7 order tty-session 1|ports 1|phase|caller a 0|modes 0 now[ echo*64]|end|
 ";
 
 /// What stands twice is in the wrong place, once its words are good.
@@ -543,7 +418,9 @@ const TWICE: &str = "\
 6 order tty-session 1|ports 1|phase|line 0|clock 0|line 0|
 6 order tty-session 1|ports 1|phase|clock 0|line 0|clock 0|
 6 order tty-session 1|ports 1|phase|caller a 0|caller b 0|caller a 0|
-20 order tty-session 1|ports 1|phase|caller c0 0|caller c1 0|caller c2 0|caller c3 0|caller c4 0|caller c5 0|caller c6 0|caller c7 0|caller c8 0|caller c9 0|caller c10 0|caller c11 0|caller c12 0|caller c13 0|caller c14 0|caller c15 0|caller c3 0|
+20 order tty-session 1|ports 1|phase|caller c0 0|caller c1 0|caller c2 0|caller c3 0|caller c4 0|caller c5 0|\
+caller c6 0|caller c7 0|caller c8 0|caller c9 0|caller c10 0|caller c11 0|caller c12 0|caller c13 0|caller c14 0|\
+caller c15 0|caller c3 0|
 9 order tty-session 1|ports 1|phase|caller a 0|phase|caller a 0|phase|caller a 0|caller a 0|
 6 order tty-session 1|ports 2|phase|line 0|line 1|line 0|
 ";
@@ -573,5 +450,6 @@ fn calls_by_handle_are_refused(rt: HostRuntime) -> Result<(), Fail> {
 fn texts_are_refused_at_their_lines(rt: HostRuntime) {
     texts_are_refused(&rt, rt.alloc(), ONE, "", WITHOUT_END);
     texts_are_refused(&rt, rt.alloc(), ONE, "", TWICE);
-    texts_are_refused(&rt, rt.alloc(), ONE, "", PASSED_TOTALS);
+    texts_are_refused(&rt, rt.alloc(), ONE, "", PASSED);
+    texts_are_refused(&rt, rt.alloc(), CHECK, "", REACHED);
 }

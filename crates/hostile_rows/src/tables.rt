@@ -13,6 +13,46 @@ pub(crate) const MODEM: &[&str] = &["modem"];
 
 pub(crate) const JOBS: &[&str] = &["jobs"];
 
+/// One line item of each kind, for `{line items}` in a row.
+const LINE_ITEMS: &str = "rx 61
+rxp 61
+rxf 61
+break
+mask
+unmask
+idle 1
+trigger 1";
+
+/// One call of each kind, for `{calls}` in a row.
+const CALLS: &str = "open 0 rw
+close 0
+read 0 1
+write 0 61
+getm 0
+modes 0 now raw
+getd 0
+setd 0 1
+flush 0 in
+xonc 0 ooff
+inq 0
+outq 0
+excl 0
+nxcl 0
+drain 0
+counts 0
+vhangup 0
+send 0 61
+take 0";
+
+/// The lines that the text of a row stands for.
+fn lines_for(text: &str) -> &str {
+    match text {
+        "{line items}" => LINE_ITEMS,
+        "{calls}" => CALLS,
+        _ => text,
+    }
+}
+
 /// The first word of a row, and what stands behind the blank after it.
 fn parted(row: &str) -> (&str, &str) {
     match row.split_once(' ') {
@@ -63,8 +103,11 @@ pub(crate) fn are_refused(
         if reason == "=" {
             place = parted(text);
         } else if reason != "#" {
-            let refused = is_refused_behind(alloc, words, (first, place.1), text, place.0, reason);
-            assert!(rt; refused == Ok(true), "at {text}");
+            for line in lines_for(text).lines() {
+                let before = (first, place.1);
+                let refused = is_refused_behind(alloc, words, before, line, place.0, reason);
+                assert!(rt; refused == Ok(true), "at {line}");
+            }
         }
     }
 }

@@ -1,12 +1,10 @@
 mod Bounds
 mod Deciding
 mod Due
-mod LogLaws
+mod Heads
 pub mod OnePort
-mod OneReport
 mod ReadLaws
-mod Settling
 mod SignalLaws
-mod Stepping
-mod TwoLogs
+mod Steps
+mod TwoRuns
 mod Whole

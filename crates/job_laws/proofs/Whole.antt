@@ -2,21 +2,20 @@
 use Rattle.std.proofs.Common.{◌≡◌, ◌≤◌, ◌<◌, ◌⊎◌, inl, inr, ℕ, ◌+◌, ◌==◌, ◌&&◌, Bool, true, false}
 use Rattle.std.proofs.Common.{not, List, [], ◌∷◌, ◌++◌, Option, None, Some, length, take, drop}
 use Rattle.std.proofs.Common.{if◌then◌else◌, refl, sym, ap, ◌∙◌, arith, length-append}
-use Rattle.std.specs.Prelude.{slice_get, sum, nat_le, flat_map}
+use Rattle.std.specs.Prelude.{slice_get, nat_le, flat_map}
 use Rattle.std.specs.Str.{bytes_eq}
 use Rattle.std.specs.Prelude.{filter}
-use Rattle.std.proofs.lemmas.Bool.{cases_lt}
 use Rattle.std.proofs.lemmas.List.{take-append-drop, take-take}
 use Rattle.std.proofs.lemmas.List.Concat.{flat_map-append}
 use Rattle.tty_calls.specs.declared.journals.Who.{Who}
 use Rattle.tty_calls.specs.declared.journals.Who.TheVariants.{Caller, Flusher, Line, Clock, Session}
 use Rattle.tty_calls.specs.Plain.{PlainCall, PlainEvent, answered, parted, waited, flushed, ticked, line_ended}
 use Rattle.tty_calls.specs.Plain.{clock_ended, caller_ended, phase_ended, hung_up, PlainEntry}
-use Rattle.tty_calls.specs.Sessions.{PlainSession, scripts_over, names_of, call_at, counts_on}
-use Rattle.tty_terminal.specs.Terminals.{Terminal, opening}
+use Rattle.tty_calls.specs.Sessions.{PlainSession, scripts_over, names_of, call_at}
+use Rattle.tty_terminal.specs.Terminals.{Terminal}
 use Rattle.tty_terminal.specs.Steps.{nothing_to_flush}
 use Rattle.tty_terminal.specs.Runs.{is_of_call}
-use Rattle.legal_runs.specs.Legal.{first_step, steps_in, flip_on}
+use Rattle.legal_runs.specs.Legal.{first_step, steps_in}
 use Rattle.one_order.specs.Order.{Place, first_place as place_first, turn, turn_after, turn_by_rank, turn_after_event}
 use Rattle.one_order.specs.Order.{AreInTurn, first_of, can_go_on, is_waiting, callers_of, is_of_consoles, due}
 use Rattle.passed_calls.specs.Blocks.{names_on}
@@ -25,7 +24,10 @@ use Rattle.job_text.specs.Sessions.{JobCall, JobsPhase, JobsSession, blocks_in}
 use Rattle.job_steps.specs.Derived.{scripts_over as job_scripts_over, steps_before, IsStepIn}
 use Rattle.job_steps.specs.Steps.{JobsState, next_of, raised_at}
 use Rattle.job_one.specs.Played.{port_in}
-use Rattle.passed_laws.proofs.Journeys.{Journey, answer_count, answers_in}
+use Rattle.passed_laws.proofs.Journeys.{answer_count, answers_in}
+use Rattle.logged_laws.proofs.Entries.{one_phase}
+use Rattle.logged_laws.proofs.TwoLogs.{WholeRun}
+use Rattle.job_laws.proofs.Steps.{job_log}
 use Rattle.passed_laws.proofs.Comings.{IsPartBy}
 
 -- ---- the steps of a caller, phase by phase
@@ -71,36 +73,24 @@ steps_rise p session j k c le =
     omega (arith, few, same)
 
 -- a step is of one phase
-pub one_phase : (p : ℕ) (session : JobsSession) (j k c step : ℕ)
+pub step_phase : (p : ℕ) (session : JobsSession) (j k c step : ℕ)
     → IsStepIn p session j c step
     → IsStepIn p session k c step
     → j ≡ k
-one_phase p session j k c step h g =
-    let h_from = h.from in
-    let h_to = h.to in
-    let g_from = g.from in
-    let g_to = g.to in
-    elim (cases_lt j k) [
-      | inl lt ↦
-          (let up = steps_rise p session (j + 1) k c (omega (arith, lt)) in absurd (omega (arith, up, h_to, g_from)))
-      | inr le ↦ elim (cases_lt k j) [
-        | inl lt ↦
-            (let up = steps_rise p session (k + 1) j c (omega (arith, lt)) in absurd (omega (arith, up, g_to, h_from)))
-        | inr ge ↦ omega (arith, le, ge)
-      ]
-    ]
+step_phase p session j k c step h g =
+    one_phase (λ i. steps_before p session i c) j k step (λ a b le. steps_rise p session a b c le) h.from h.to g.from
+    g.to
 
 -- ---- a whole run
 
 pub record Whole (p : ℕ) (session : JobsSession) (played : PlainSession) (journal : List PlainEntry) (last : Terminal)
     (end : JobsState) : Type 0 where
-  pub journey : Journey p played (opening (sum (counts_on p played)) (flip_on p played)) last journal
+  pub run : WholeRun (job_log p session) p played journal last end
   pub bounds : (k c : ℕ) → first_step p played k c + steps_in p played k c ≤ answers_in c journal
   pub names : names_of (scripts_over p played.phases) ≡ names_on p (blocks_in session)
   pub answered : (c : ℕ) → c < length (names_on p (blocks_in session)) → next_of end c ≡ all_steps p session c
   pub turns : AreInTurn p played (place_first p played) journal
   pub ends : last.phase ≡ length played.phases
-  pub idle : end.due ≡ []
   pub sent : end.signals
       ≡ length (raised_at (port_in session played p journal).journal (length journal))
 

@@ -1,14 +1,12 @@
 -- The desk goes along with the line of a phase.
 use Rattle.std.proofs.Common.{◌≡◌, ◌≤◌, ℕ, Bool, true, false, List, [], ◌∷◌, ◌++◌, IsTrue, if◌then◌else◌}
 use Rattle.std.proofs.Common.{length, drop, refl, sym, ap, ◌∙◌, subst, arith, append-nil, length-drop}
-use Rattle.std.specs.Prelude.{All}
+use Rattle.std.specs.Prelude.{All, Result, Ok, Err, IfErr, OnOk}
 use Rattle.std.proofs.lemmas.Bool.{false≢true}
 use Rattle.std.proofs.lemmas.List.Elements.{All-head}
 use Rattle.tty_base.specs.declared.characters.Flagged.{Flagged}
-use Rattle.tty_base.specs.declared.lines.LineStep.{LineStep}
 use Rattle.tty_base.specs.declared.counters.Signal.{Signal}
 use Rattle.word_ring.specs.Ends.{PutterState, TakerState}
-use Rattle.uart_line.specs.LineState.{LineState}
 use Rattle.tty_calls.specs.declared.answers.Denied.{Denied}
 use Rattle.tty_calls.specs.declared.answers.Denied.TheVariants.{NoMemory, Full}
 use Rattle.tty_calls.specs.declared.journals.Who.TheVariants.{Line}
@@ -21,9 +19,9 @@ use Rattle.tty_terminal.specs.Runs.{KnowsMore, is_flush}
 use Rattle.tty_terminal.proofs.StandingLaws.{run_stands}
 use Rattle.port_core.specs.Flips.{after_meeting}
 use Rattle.port_core.specs.Phases.{EndsLine}
-use Rattle.port_core.specs.Ports.{PortValue, IsPort, Denies, call_in, phase_entry}
+use Rattle.port_core.specs.Ports.{PortValue, IsPort, call_in, phase_entry}
 use Rattle.one_thread.specs.Acts.{FlushesOnce}
-use Rattle.one_thread.specs.LineInside.{StopsSteps}
+use Rattle.one_thread.specs.Following.{FollowsBy, GoesAlong, StopsAlong as StopsFollowing, FollowsLine, met_with}
 use Rattle.play_base.specs.Roles.{Scene}
 use Rattle.job_text.specs.Sessions.{JobsSession}
 use Rattle.job_steps.specs.Derived.{passings_on}
@@ -31,7 +29,7 @@ use Rattle.passed_laws.specs.Later.{ComesBy}
 use Rattle.passed_laws.specs.Begun.{HadBegun}
 use Rattle.job_one.specs.Desk.{signals_of}
 use Rattle.job_one.specs.Events.{DeskState, all_sent_on, new_sent_on, HasRaised, StandsAt}
-use Rattle.job_one.specs.Along.{IsUpToDate, SendsAlone, SendsAlong, StopsAlong, StopsBy}
+use Rattle.job_one.specs.Along.{IsUpToDate, SendsNew, SendsAlone, SendsAlong, StopsAlong, StopsBy}
 use Rattle.job_one.proofs.DeskEvents.{desk_stays}
 use Rattle.job_one.proofs.Raised.{entry_still}
 use Rattle.job_one.proofs.Sending.{all_stand, sent_up, same_desk, all_pass}
@@ -265,10 +263,6 @@ flush_stops v w d port later h =
       each = λ first session up. flush_stands v w h.part port later h refl h.few first session d up.stands;
     }
 
-pub stops_by : (denied : Denied) (v w : PortValue) (d x : DeskState) → StopsAlong v w d x → StopsBy denied v w d x
-stops_by NoMemory v w d x h = tt
-stops_by Full v w d x h = h
-
 -- ---- one after the other
 
 alone_more : (d x y : DeskState) → SendsAlone d x → SendsAlone x y → SendsAlone d y
@@ -306,18 +300,6 @@ stops_more Full u v w d x y h k = record {
   begun = λ c. had_more u v w c (h.begun c) (k.begun c);
   each = λ first session up. k.each first session (h.each first session up);
 }
-
--- want of memory tells nothing
-pub memory_stops : (denied : Denied) (v w : PortValue) (d x : DeskState) → denied ≡ NoMemory → StopsBy denied v w d x
-memory_stops denied v w d x is = subst (λ (y : Denied). StopsBy y v w d x) (sym is) tt
-
-pub memory_steps : (denied : Denied) (steps : List LineStep) (v w : PortValue) (putter now : PutterState Flagged)
-    (line next : LineState) (run : ℕ)
-    → denied ≡ NoMemory
-    → StopsSteps denied steps v w putter now line next run
-memory_steps denied steps v w putter now line next run is =
-    subst (λ (y : Denied). StopsSteps y steps v w putter now line next run) (sym is)
-    (record { each = λ b done left script i. tt })
 
 -- ---- the ends of the line
 
@@ -368,9 +350,46 @@ line_end_sends v w putter now d port later ends =
       };
     }
 
--- .. or it is denied
-pub line_end_stops : (denied : Denied) (v w : PortValue) (d : DeskState) → Denies denied v w → StopsBy denied v w d d
-line_end_stops NoMemory v w d h = tt
-line_end_stops Full v w d h =
-    subst (λ (x : PortValue). StopsAlong v x d d) (sym h.1)
-    (record { alone = alone_none d; kept = refl; begun = λ c is. (is, refl); each = λ first session up. up.stands })
+-- ---- the line
+
+sends_none : (v w : PortValue) (d x : DeskState) → w ≡ v → x ≡ d → SendsAlong v w d x
+sends_none v w d x port desk =
+    subst (λ (y : PortValue). SendsAlong v y d x) (sym port)
+    (subst (λ (z : DeskState). SendsAlong v v d z) (sym desk)
+    (record { alone = alone_none d; kept = refl; begun = λ c is. (is, refl); each = λ first session up. up }))
+
+sends_by : (between : List (PortValue × DeskState)) (v w : PortValue) (d x : DeskState)
+    → FollowsBy SendsNew between v w d x
+    → SendsAlong v w d x
+sends_by [] v w d x h = sends_none v w d x h.0 h.1
+sends_by (mid ∷ between) v w d x h =
+    sends_more v mid.0 w d mid.1 x (flush_sends v mid.0 d mid.1 h.0.was h.0.is h.0.flushes h.0.done)
+    (sends_by between mid.0 w mid.1 x h.1)
+
+sends_met : (v w : PortValue) (putter : PutterState Flagged) (d x : DeskState)
+    → GoesAlong SendsNew (met_with v putter) w d x
+    → SendsAlong v w d x
+sends_met v w putter d x h =
+    sends_more v (met_with v putter) w d d x (meeting_sends v (met_with v putter) putter d refl)
+    (sends_by h.between (met_with v putter) w d x h.by)
+
+pub line_sends : (v w : PortValue) (putter : PutterState Flagged) (d x : DeskState) (result : Result ℕ Denied)
+    → FollowsLine SendsNew v w putter d x result
+    → OnOk result (SendsAlong v w d x)
+line_sends v w putter d x (Ok next) h =
+    sends_more v h.mid w d x x (sends_met v h.mid putter d x h.goes)
+    (line_end_sends h.mid w h.put h.now x h.was h.is h.ends)
+line_sends v w putter d x (Err denied) h = tt
+
+stops_met : (denied : Denied) (v w : PortValue) (putter : PutterState Flagged) (d x : DeskState)
+    → StopsFollowing denied SendsNew (met_with v putter) w d x
+    → StopsBy denied v w d x
+stops_met NoMemory v w putter d x h = tt
+stops_met Full v w putter d x h =
+    stops_more Full v h.mid w d x x (sends_met v h.mid putter d x h.goes) (flush_stops h.mid w x h.was h.is h.flushes)
+
+pub line_stops : (v w : PortValue) (putter : PutterState Flagged) (d x : DeskState) (result : Result ℕ Denied)
+    → FollowsLine SendsNew v w putter d x result
+    → IfErr result (λ denied. StopsBy denied v w d x)
+line_stops v w putter d x (Ok next) h = tt
+line_stops v w putter d x (Err denied) h = stops_met denied v w putter d x h

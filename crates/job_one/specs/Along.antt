@@ -8,7 +8,11 @@ use Rattle.job_text.specs.Sessions.{JobsSession}
 use Rattle.job_steps.specs.Derived.{passings_on}
 use Rattle.passed_laws.specs.Begun.{HadBegun}
 use Rattle.job_one.specs.Desk.{signals_of}
-use Rattle.job_one.specs.Events.{DeskState, IsSameDesk, StandsAt}
+use Rattle.job_one.specs.Events.{DeskState, IsSameDesk, StandsAt, new_sent_on}
+
+-- the signals that the port has raised since are sent on
+abbrev pub SendsNew : PortValue → DeskState → DeskState → Type 0
+SendsNew v d x = x ≡ new_sent_on v d
 
 -- the log leads to here, and each signal of the port was sent on
 pub record IsUpToDate (first : Scene) (session : JobsSession) (v : PortValue) (d : DeskState) : Type 0 where

@@ -50,7 +50,7 @@ fn told_as(tried: Result<(), JobRefusal>) -> JobAnswer
 }
 
 /// The group in the foreground, as a target.
-pub fn foreground(jobs: &Jobs) -> Target
+pub(crate) fn foreground(jobs: &Jobs) -> Target
     ensures { result ≡ foreground_target jobs.now }
 {
     match jobs.foreground() {
@@ -60,7 +60,7 @@ pub fn foreground(jobs: &Jobs) -> Target
 }
 
 /// Why a call through a handle is refused: there is none, or it is dead.
-pub fn refusal_through(port: &Port, h: u8, dead: Errno) -> Option<JobAnswer>
+pub(crate) fn refusal_through(port: &Port, h: u8, dead: Errno) -> Option<JobAnswer>
     ensures { (jobs : JobState) (outcome : ControlOutcome)
         → through jobs (handle_at port.now.terminal h) (told.Refused dead) outcome ≡ refused_or jobs result outcome }
 {
@@ -72,7 +72,7 @@ pub fn refusal_through(port: &Port, h: u8, dead: Errno) -> Option<JobAnswer>
 }
 
 /// A process makes the port its controlling terminal.
-pub fn sctty(jobs: &mut Jobs, proc: u16) -> JobAnswer
+pub(crate) fn sctty(jobs: &mut Jobs, proc: u16) -> JobAnswer
     ensures answer { result ≡ done_or (sctty_refusal jobs.old proc) }
     ensures left { jobs.new ≡ after_sctty jobs.old proc }
 {
@@ -80,7 +80,7 @@ pub fn sctty(jobs: &mut Jobs, proc: u16) -> JobAnswer
 }
 
 /// A process gives up its controlling terminal.
-pub fn notty(jobs: &mut Jobs, proc: u16) -> (JobAnswer, Due)
+pub(crate) fn notty(jobs: &mut Jobs, proc: u16) -> (JobAnswer, Due)
     requires { proc < length jobs.old.procs }
     ensures answer { result.0 ≡ done_or (no_terminal jobs.old proc) }
     ensures left { jobs.new ≡ after_notty jobs.old proc }
@@ -101,7 +101,7 @@ fn due_at_notty(jobs: &Jobs, proc: u16) -> Due
 }
 
 /// The group in the foreground, as a process is told it.
-pub fn gpgrp(jobs: &Jobs, proc: u16) -> JobAnswer
+pub(crate) fn gpgrp(jobs: &Jobs, proc: u16) -> JobAnswer
     ensures { result ≡ number_or (gpgrp_answer jobs.now proc) }
 {
     match jobs.gpgrp(proc) {
@@ -111,7 +111,7 @@ pub fn gpgrp(jobs: &Jobs, proc: u16) -> JobAnswer
 }
 
 /// A process puts a group into the foreground, once the background check has let it go on.
-pub fn spgrp(jobs: &mut Jobs, proc: u16, group: u16) -> JobAnswer
+pub(crate) fn spgrp(jobs: &mut Jobs, proc: u16, group: u16) -> JobAnswer
     ensures answer { result ≡ done_or (spgrp_refusal jobs.old proc group) }
     ensures left { jobs.new ≡ after_spgrp jobs.old proc group }
 {
@@ -119,7 +119,7 @@ pub fn spgrp(jobs: &mut Jobs, proc: u16, group: u16) -> JobAnswer
 }
 
 /// A process ends.
-pub fn exit(jobs: &mut Jobs, proc: u16) -> Due
+pub(crate) fn exit(jobs: &mut Jobs, proc: u16) -> Due
     requires { proc < length jobs.old.procs }
     ensures left { jobs.new ≡ after_exit jobs.old proc }
     ensures due { (c : ℕ) (least : Option ℕ) → due_events result c least ≡ ended_due jobs.old proc c least }
@@ -134,7 +134,7 @@ pub fn exit(jobs: &mut Jobs, proc: u16) -> Due
 }
 
 /// A call of job control by a process.
-pub fn control(jobs: &mut Jobs, port: &Port, proc: u16, call: OwnCall) -> (JobAnswer, Due)
+pub(crate) fn control(jobs: &mut Jobs, port: &Port, proc: u16, call: OwnCall) -> (JobAnswer, Due)
     requires { proc < length jobs.old.procs }
     ensures { (c : ℕ)
         → outcome_of jobs.old port.now.terminal proc c (further call)
@@ -214,7 +214,7 @@ fn spgrp_checked(jobs: &mut Jobs, port: &Port, proc: u16, group: u16) -> (JobAns
 }
 
 /// The handle through which the port is hung up, where that is due.
-pub fn hangup_through(port: &Port, due: Due) -> Option<u8>
+pub(crate) fn hangup_through(port: &Port, due: Due) -> Option<u8>
     ensures { result ≡ hangup_due due (position is_live port.now.terminal.handles) }
 {
     match due {

@@ -142,7 +142,7 @@ impl Desk {
     }
 
     /// What a call that is for the port meets before the port is asked.
-    pub fn judge(&self, port: &Port, caller: u16, call: &Call) -> Judged
+    pub(crate) fn judge(&self, port: &Port, caller: u16, call: &Call) -> Judged
         requires { caller < length self.now.callers }
         ensures { result
             ≡ judged_call self.now.jobs port.now.terminal (slice_index_or self.now.callers caller 0)
@@ -174,7 +174,12 @@ impl Desk {
     }
 
     /// A caller's call is answered without the port.
-    pub fn answer(&mut self, port: &Port, caller: u16, answer: JobAnswer) -> Result<(), Denied>
+    pub(crate) fn answer(
+        &mut self,
+        port: &Port,
+        caller: u16,
+        answer: JobAnswer,
+    ) -> Result<(), Denied>
         requires known { caller < length self.old.next }
         requires few { slice_index_or self.old.next caller 0 < 2 ^ 32 - 1 }
         ensures ok { OnOk result (self.new ≡ answered_own self.old (length port.now.journal) caller answer) }
@@ -194,7 +199,7 @@ impl Desk {
     }
 
     /// A caller's call is answered without the port, and the signals that are due then are sent.
-    pub fn answer_with(
+    pub(crate) fn answer_with(
         &mut self,
         port: &Port,
         caller: u16,
@@ -230,7 +235,7 @@ impl Desk {
 
     /// A caller's call of job control is made and answered, and the signals that are due then are sent. It gives what
     /// was due.
-    pub fn control(&mut self, port: &Port, caller: u16, call: OwnCall) -> Result<Due, Denied>
+    pub(crate) fn control(&mut self, port: &Port, caller: u16, call: OwnCall) -> Result<Due, Denied>
         requires known { caller < length self.old.next }
         requires few { slice_index_or self.old.next caller 0 < 2 ^ 32 - 1 }
         requires caller { caller < length self.old.callers }
@@ -251,7 +256,7 @@ impl Desk {
     }
 
     /// The port was hung up for a process that has ended.
-    pub fn pass_down(&mut self, port: &Port, caller: u16, h: u8) -> Result<(), Denied>
+    pub(crate) fn pass_down(&mut self, port: &Port, caller: u16, h: u8) -> Result<(), Denied>
         ensures ok { OnOk result (self.new ≡ noted self.old (length port.now.journal) (passed_down caller h)) }
         ensures err { IfErr result (λ d. d ≡ denied.NoMemory) }
     {
@@ -259,7 +264,7 @@ impl Desk {
     }
 
     /// A call from the background is answered as it was judged, and its group is told.
-    pub fn stop(&mut self, port: &Port, caller: u16, judged: Judged) -> Result<(), Denied>
+    pub(crate) fn stop(&mut self, port: &Port, caller: u16, judged: Judged) -> Result<(), Denied>
         requires known { caller < length self.old.next }
         requires few { slice_index_or self.old.next caller 0 < 2 ^ 32 - 1 }
         requires caller { caller < length self.old.callers }
@@ -281,7 +286,7 @@ impl Desk {
     }
 
     /// The port has answered a caller's call.
-    pub fn pass(&mut self, port: &Port, caller: u16, answer: Answer) -> Result<(), Denied>
+    pub(crate) fn pass(&mut self, port: &Port, caller: u16, answer: Answer) -> Result<(), Denied>
         requires known { caller < length self.old.next }
         requires few { slice_index_or self.old.next caller 0 < 2 ^ 32 - 1 }
         ensures ok { OnOk result
@@ -318,7 +323,7 @@ impl Desk {
     }
 
     /// The port has answered a caller's call. Where that was a hangup, the leader of the session is told.
-    pub fn pass_answer(
+    pub(crate) fn pass_answer(
         &mut self,
         port: &Port,
         caller: u16,
@@ -381,7 +386,7 @@ impl Desk {
     }
 
     /// Sends the port's new signals on.
-    pub fn send_new(&mut self, port: &Port) -> Result<(), Denied>
+    pub(crate) fn send_new(&mut self, port: &Port) -> Result<(), Denied>
         ensures ok { OnOk result (self.new ≡ new_sent_on port.now self.old) }
         ensures err { IfErr result (λ d. d ≡ denied.NoMemory) }
     {

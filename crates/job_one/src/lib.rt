@@ -14,9 +14,6 @@ mod players;
 mod turns;
 
 pub use after_line::play_after_line;
-pub use controls::{
-    Due, control, exit, foreground, gpgrp, hangup_through, notty, refusal_through, sctty, spgrp,
-};
 pub use desk_laws::{
     calls_begin_by_their_entries, desks_follow_their_ports, desks_go_along_with_lines,
     new_signals_are_sent_on, signals_come_of_flushes,
@@ -32,4 +29,3 @@ pub use players::{
     phases_of_processes_are_played, players_answer_calls, players_hang_up_for_processes,
     players_pass_calls_down, players_send_signals_on, players_take_their_turns,
 };
-pub use turns::{Taken, take_call, take_flush, take_own, take_pass, take_stop};

@@ -102,7 +102,9 @@ pub fn players_send_signals_on()
 
 /// By a call that is answered without the port, in its caller's turn.
 pub fn players_answer_calls()
-    ensures own { (first : Scene) (session : JobsSession) (scripts : Scene → List Script) (roles : List Role) (start : PortValue) (log : JobLog) (v : PortValue) (d : DeskValue) (ticks : ℕ) (stand : Stand) (place : ℕ) (r : Role) (call : JobCall) (j : Journal)
+    ensures own { (first : Scene) (session : JobsSession) (scripts : Scene → List Script) (roles : List Role)
+        (start : PortValue) (log : JobLog) (v : PortValue) (d : DeskValue) (ticks : ℕ) (stand : Stand) (place : ℕ)
+        (r : Role) (call : JobCall) (j : Journal)
         → IsPlayingJobs first session scripts roles start log v d ticks stand
         → IsTurn (is_of_consoles first.session) v (role_numbers roles) stand.going (turn.Call place)
         → slice_get roles place ≡ Some r

@@ -24,7 +24,7 @@ pub struct Taken {
 }
 
 /// The next piece of a flush run, and the signals that it has raised.
-pub fn take_flush(
+pub(crate) fn take_flush(
     port: &mut Port,
     desk: &mut Desk,
     roles: &[Role],
@@ -44,7 +44,7 @@ pub fn take_flush(
 }
 
 /// A tick, or the end of the clock.
-pub fn take_pass(
+pub(crate) fn take_pass(
     port: &mut Port,
     desk: &Desk,
     roles: &[Role],
@@ -65,7 +65,7 @@ pub fn take_pass(
 
 /// An attempt of a caller's call that is for the port. Where the port answers it, that is logged, and a hangup tells
 /// the leader of the session.
-pub fn take_call(
+pub(crate) fn take_call(
     port: &mut Port,
     desk: &mut Desk,
     roles: &[Role],
@@ -104,7 +104,7 @@ pub fn take_call(
 }
 
 /// A caller's call from the background, which is answered without the port.
-pub fn take_stop(
+pub(crate) fn take_stop(
     port: &Port,
     desk: &mut Desk,
     roles: &[Role],
@@ -131,7 +131,7 @@ pub fn take_stop(
 
 /// A caller's call of job control. Where a process ends that leads the session that holds the port, the port is hung up
 /// for it.
-pub fn take_own(
+pub(crate) fn take_own(
     port: &mut Port,
     desk: &mut Desk,
     roles: &[Role],

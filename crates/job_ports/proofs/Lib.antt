@@ -8,5 +8,5 @@ pub mod Bounded
 pub mod Casting
 pub mod Beginning
 pub mod Starting
-pub mod Endings
+pub mod Ended
 pub mod Derived

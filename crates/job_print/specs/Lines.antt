@@ -1,5 +1,5 @@
 -- What a report says of job control.
-use Rattle.std.specs.Prelude.{ℕ, List, [], ◌∷◌, ◌++◌, codes, decimal, slice_get}
+use Rattle.std.specs.Prelude.{ℕ, List, [], ◌++◌, codes, decimal, slice_get}
 use Rattle.std.specs.Option.{option_map_or}
 use Rattle.session_print.specs.Words.{errno_name}
 use Rattle.job_control.specs.declared.processes.Proc.{Proc}
@@ -9,11 +9,9 @@ use Rattle.job_control.specs.declared.answers.JobAnswer.{JobAnswer}
 use Rattle.job_control.specs.declared.answers.JobAnswer.TheVariants.{Done, Number, Refused, NotPermitted, Stopped}
 use Rattle.job_control.specs.declared.answers.Target.{Target}
 use Rattle.job_control.specs.declared.answers.Target.TheVariants.{Group, Process, Nobody}
+use Rattle.session_print.specs.Lines.{newline}
 
 -- the end of a line
-abbrev pub newline : List ℕ
-newline = 10 ∷ []
-
 abbrev pub signal_text : JobSignal → List ℕ
 signal_text Int = codes "INT"
 signal_text Quit = codes "QUIT"

@@ -1,22 +1,11 @@
 -- The lines of a worked report.
-use Rattle.std.specs.Prelude.{ℕ, List, [], ◌∷◌, ◌++◌, None, false, true, codes}
+use Rattle.std.specs.Prelude.{ℕ, List, [], ◌∷◌, ◌++◌, codes}
 use Rattle.tty_base.specs.declared.counters.Errno.TheVariants.{EIO}
 use Rattle.job_control.specs.declared.answers.JobAnswer.TheVariants.{Done, Number, Refused, NotPermitted, Stopped}
 use Rattle.job_control.specs.declared.answers.Target.TheVariants.{Group, Process, Nobody}
 use Rattle.job_control.specs.declared.processes.JobSignal.TheVariants.{Int, Ttin, Hup}
-use Rattle.job_control.specs.declared.processes.Proc.{Proc}
 use Rattle.job_print.specs.Lines.{answer_line, signal_line}
-
-abbrev pub shell : Proc
-shell = record {
-  name = record { bytes = codes "sh"; spare = [] };
-  session = 1;
-  group = 1;
-  parent = None;
-  leader = true;
-  nottin = false;
-  nottou = false;
-}
+use Rattle.job_control.specs.Rows.{shell}
 
 abbrev pub worked_lines : List ℕ
 worked_lines =

@@ -1,5 +1,5 @@
 -- Worked sessions of job control: their logs and journals.
-use Rattle.std.specs.Prelude.{ℕ, List, [], ◌∷◌, true, false, Option, None, Some, codes, sum}
+use Rattle.std.specs.Prelude.{ℕ, List, [], ◌∷◌, true, Option, None, Some, codes, sum}
 use Rattle.tty_base.specs.declared.lines.LineStep.{LineStep}
 use Rattle.tty_base.specs.declared.lines.LineStep.TheVariants.{Rx}
 use Rattle.tty_base.specs.declared.counters.Errno.TheVariants.{EAGAIN, EIO}
@@ -13,7 +13,6 @@ use Rattle.tty_calls.specs.Sessions.{PlainPhase, PlainSession, call_at, counts_o
 use Rattle.tty_terminal.specs.Terminals.{opening}
 use Rattle.tty_terminal.specs.Rows.{whole, answers, normal}
 use Rattle.legal_runs.specs.Legal.{flip_on}
-use Rattle.job_control.specs.declared.processes.Proc.{Proc}
 use Rattle.job_control.specs.declared.processes.JobSignal.TheVariants.{Int, Ttin, Hup}
 use Rattle.passed_calls.specs.declared.logs.Logged.{Logged}
 use Rattle.job_control.specs.declared.answers.JobAnswer.TheVariants as told
@@ -24,30 +23,10 @@ use Rattle.job_text.specs.Events.{JobEvent, own, passed, passed_down, sent, JobL
 use Rattle.job_text.specs.Sessions.{JobCall, JobsPhase, JobsSession}
 use Rattle.job_steps.specs.Derived.{derived}
 use Rattle.job_steps.specs.Steps.{Port, JobsState, after_event}
+use Rattle.job_control.specs.Rows.{shell, job_of}
+use Rattle.one_order.specs.Rows.{played_with}
 
 -- ---- sessions of one port, with a shell that leads session 1, and a job of it
-
-abbrev pub shell : Proc
-shell = record {
-  name = record { bytes = codes "sh"; spare = [] };
-  session = 1;
-  group = 1;
-  parent = None;
-  leader = true;
-  nottin = false;
-  nottou = false;
-}
-
-abbrev pub job_of : (parent : Option ℕ) → Proc
-job_of parent = record {
-  name = record { bytes = codes "job"; spare = [] };
-  session = 1;
-  group = 2;
-  parent = parent;
-  leader = false;
-  nottin = false;
-  nottou = false;
-}
 
 abbrev pub phase_with : List LineStep → (name : List ℕ) → List JobCall → JobsPhase
 phase_with line name calls =
@@ -60,9 +39,6 @@ session_with parent phases =
 abbrev pub played_phase : List LineStep → (name : List ℕ) → List PlainCall → PlainPhase
 played_phase line name calls =
     record { lines = line ∷ []; ticks = 0 ∷ []; callers = record { port = 0; name = name; calls = calls } ∷ [] }
-
-abbrev pub played_with : List PlainPhase → PlainSession
-played_with phases = record { version = 1; ports = 1; flips = 4096 ∷ []; phases = phases }
 
 abbrev pub logged : ℕ → JobEvent → Logged JobEvent
 logged at event = record { port = 0; at = at; event = event }

@@ -1,28 +1,16 @@
 -- Worked texts: what is refused, and what is read.
-use Rattle.std.specs.Prelude.{ℕ, true, false, List, [], ◌∷◌, ◌++◌, codes, None, Some}
+use Rattle.std.specs.Prelude.{ℕ, true, false, List, [], ◌∷◌, ◌++◌, codes, Some}
 use Rattle.tty_base.specs.declared.lines.LineStep.TheVariants.{Rx}
 use Rattle.tty_base.specs.declared.characters.Flag.TheVariants.{Normal}
 use Rattle.tty_calls.specs.declared.calls.Access.TheVariants.{Rw}
 use Rattle.tty_calls.specs.Plain.{opens, reads}
-use Rattle.session_text.specs.declared.faults.Reason.{Reason}
 use Rattle.session_text.specs.declared.faults.Reason.TheVariants.{Header, Word, Number, Order, Limit}
-use Rattle.session_text.specs.declared.faults.BadLine.{BadLine}
 use Rattle.job_control.specs.declared.processes.Proc.{Proc}
 use Rattle.job_text.specs.declared.calls.OwnCall.TheVariants as call
 use Rattle.passed_calls.specs.Scripts.{CallerScript, plain, further}
 use Rattle.job_text.specs.Sessions.{JobCall, JobsPhase, JobsSession}
-
--- a text, its first wrong line, and why that line is wrong
-pub record RefusedRow : Type 0 where
-  pub text : List ℕ
-  pub line : BadLine
-
-abbrev pub refused_at : ℕ → Reason → List ℕ → RefusedRow
-refused_at line reason text = record { text = text; line = record { line = line; reason = reason } }
-
--- a text that begins well, with two ports; the next line is its third
-abbrev pub two_ports_with : List ℕ → List ℕ
-two_ports_with more = codes "tty-session 1\nports 2\n" ++ more
+use Rattle.session_text.specs.Rows.{RefusedRow, refused_at, two_ports_with}
+use Rattle.job_control.specs.Rows.{shell}
 
 -- .. with a shell on port 0; the next line is its fourth
 abbrev pub with_shell : List ℕ → List ℕ
@@ -92,17 +80,6 @@ shell_text =
 
 abbrev pub phase_of : List (CallerScript JobCall) → JobsPhase
 phase_of callers = record { lines = [] ∷ []; ticks = 0 ∷ []; callers = callers }
-
-abbrev pub shell : Proc
-shell = record {
-  name = record { bytes = codes "sh"; spare = [] };
-  session = 1;
-  group = 1;
-  parent = None;
-  leader = true;
-  nottin = false;
-  nottou = false;
-}
 
 abbrev pub a_job : Proc
 a_job = record {

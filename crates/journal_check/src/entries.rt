@@ -21,8 +21,8 @@ ghost use Rattle.journal_check.specs.Scripts.{AreTurns};
 ghost use Rattle.journal_check.specs.Replaying.{CallStays, Stays};
 
 use crate::steps::{
-    callers_of, is_next, may_end_caller, may_end_line, may_end_phase, may_hang_up, may_tick,
-    try_answer, try_flush, try_part, try_wait,
+    Callers, callers_of, is_next, may_end_caller, may_end_line, may_end_phase, may_hang_up,
+    may_tick, try_answer, try_flush, try_part, try_wait,
 };
 use crate::turns::{Turn, call_in};
 use ldisc_switch::{Kind, fresh};
@@ -30,6 +30,16 @@ use std::alloc::Global;
 use tty_base::{Flagged, NoMemory};
 use tty_calls::{Call, Entry, Event, Names, Session, Who};
 use tty_terminal::Terminal;
+
+/// What is kept of a port's callers beside the terminal.
+#[derive(Clone, Copy)]
+pub(crate) struct Table<'a> {
+    /// Each caller's turn.
+    pub(crate) turns: &'a [Turn],
+    pub(crate) names: &'a Names,
+    /// How many callers each phase has.
+    pub(crate) counts: &'a [usize],
+}
 
 // ---- generations
 
@@ -233,11 +243,12 @@ fn try_of_call(
 {
     match &entry.event {
         Event::Answer { answer, dropped } => {
-            let of_phase = callers_of(counts, terminal.phase());
+            let callers = Callers {
+                all: callers,
+                of_phase: callers_of(counts, terminal.phase()),
+            };
             let count = dropped.len();
-            try_answer(
-                alloc, terminal, callers, of_phase, caller, call, answer, count,
-            )
+            try_answer(alloc, terminal, callers, caller, call, answer, count)
         }
         Event::Part(count) => try_part(alloc, terminal, caller, call, *count),
         Event::Wait => Ok(try_wait(terminal, caller, call)),
@@ -260,40 +271,46 @@ fn is_counted(call: &Call) -> bool
 fn try_by_caller(
     alloc: Global,
     terminal: &mut Terminal,
-    turns: &[Turn],
-    names: &Names,
-    counts: &[usize],
+    table: &Table,
     session: &Session,
     port: usize,
     caller: u16,
     entry: &Entry,
 ) -> Result<bool, NoMemory>
     requires formed { IsWellFormed (session_of session.now) }
-    requires names { names.now ≡ names_of (scripts_over port (session_of session.now).phases) }
+    requires names { table.now.names.now ≡ names_of (scripts_over port (session_of session.now).phases) }
     requires small { IsSmall terminal.old.terminal }
-    requires turns { AreTurns port (session_of session.now) terminal.old.terminal.phase turns.now }
-    requires many { length turns.now ≡ length terminal.old.terminal.callers }
+    requires turns { AreTurns port (session_of session.now) terminal.old.terminal.phase table.now.turns.now }
+    requires many { length table.now.turns.now ≡ length terminal.old.terminal.callers }
     requires by_caller { entry.now.who ≡ who.Caller caller }
     requires of_call { is_of_call (event_of entry.now.event) ≡ true }
     requires in_phase { IsInPhase port (session_of session.now) terminal.old.terminal.phase entry.now.who entry.now.step
         (event_of entry.now.event) }
-    ensures tries { IfOk result (λ made. Tries (IsAllowed (call_at port (session_of session.now)) counts.now
+    ensures tries { IfOk result (λ made. Tries (IsAllowed (call_at port (session_of session.now)) table.now.counts.now
         terminal.old.terminal entry.now.who entry.now.step entry.now.part (event_of entry.now.event))
         (after_event (call_at port (session_of session.now)) terminal.old.terminal entry.now.who entry.now.step
         entry.now.part (event_of entry.now.event)) terminal.new.terminal made) }
     ensures column { OnOk result
         (column_in terminal.new.terminal.disc ≤ column_in terminal.old.terminal.disc + COLUMNS_OF_PIECE) }
 {
-    if !is_next(terminal, turns.len(), caller, entry.step, entry.part) {
+    if !is_next(terminal, table.turns.len(), caller, entry.step, entry.part) {
         return Ok(false);
     }
-    let turn = turns[caller as usize];
+    let turn = table.turns[caller as usize];
     let phase = terminal.phase();
-    let call = call_in(session, names, port, phase, caller, turn, entry.step);
+    let call = call_in(session, table.names, port, phase, caller, turn, entry.step);
     if !is_counted(&call) {
         return Err(NoMemory);
     }
-    try_of_call(alloc, terminal, turns.len(), counts, caller, &call, entry)
+    try_of_call(
+        alloc,
+        terminal,
+        table.turns.len(),
+        table.counts,
+        caller,
+        &call,
+        entry,
+    )
 }
 
 /// Tries a piece of a flush run.
@@ -317,21 +334,19 @@ fn try_piece(terminal: &mut Terminal, entry: &Entry, chars: &[Flagged]) -> Resul
 pub(crate) fn try_entry(
     alloc: Global,
     terminal: &mut Terminal,
-    turns: &[Turn],
-    names: &Names,
-    counts: &[usize],
+    table: &Table,
     session: &Session,
     port: usize,
     entry: &Entry,
 ) -> Result<bool, NoMemory>
     requires formed { IsWellFormed (session_of session.now) }
-    requires names { names.now ≡ names_of (scripts_over port (session_of session.now).phases) }
+    requires names { table.now.names.now ≡ names_of (scripts_over port (session_of session.now).phases) }
     requires small { IsSmall terminal.old.terminal }
-    requires turns { AreTurns port (session_of session.now) terminal.old.terminal.phase turns.now }
-    requires many { length turns.now ≡ length terminal.old.terminal.callers }
+    requires turns { AreTurns port (session_of session.now) terminal.old.terminal.phase table.now.turns.now }
+    requires many { length table.now.turns.now ≡ length terminal.old.terminal.callers }
     requires in_phase { IsInPhase port (session_of session.now) terminal.old.terminal.phase entry.now.who entry.now.step
         (event_of entry.now.event) }
-    ensures tries { IfOk result (λ made. Tries (IsAllowed (call_at port (session_of session.now)) counts.now
+    ensures tries { IfOk result (λ made. Tries (IsAllowed (call_at port (session_of session.now)) table.now.counts.now
         terminal.old.terminal entry.now.who entry.now.step entry.now.part (event_of entry.now.event))
         (after_event (call_at port (session_of session.now)) terminal.old.terminal entry.now.who entry.now.step
         entry.now.part (event_of entry.now.event)) terminal.new.terminal made) }
@@ -341,13 +356,11 @@ pub(crate) fn try_entry(
     match &entry.event {
         Event::Answer { .. } | Event::Part(_) | Event::Wait => match entry.who {
             Who::Caller(caller) => {
-                try_by_caller(
-                    alloc, terminal, turns, names, counts, session, port, caller, entry,
-                )
+                try_by_caller(alloc, terminal, table, session, port, caller, entry)
             }
             _ => Ok(false),
         },
         Event::Flush(chars) => try_piece(terminal, entry, chars),
-        _ => try_other(alloc, terminal, turns.len(), counts, entry),
+        _ => try_other(alloc, terminal, table.turns.len(), table.counts, entry),
     }
 }

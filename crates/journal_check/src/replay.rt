@@ -10,7 +10,7 @@ ghost use Rattle.journal_check.specs.Verdicts.{IsFine};
 ghost use Rattle.journal_check.specs.Scripts.{AreTurns, AreIdle};
 ghost use Rattle.journal_check.specs.Replaying.{CanBeJudged, Follows, latest_after};
 
-use crate::entries::{stays, try_entry};
+use crate::entries::{Table, stays, try_entry};
 use crate::turns::{Turn, is_in_phase, open_phase};
 use std::alloc::Global;
 use tty_base::NoMemory;
@@ -110,16 +110,12 @@ pub(crate) fn judge(
         return Ok(false);
     }
     let (turns, counts) = (replay.turns.as_slice(), replay.counts.as_slice());
-    if !try_entry(
-        alloc,
-        &mut replay.terminal,
+    let table = Table {
         turns,
-        &replay.names,
+        names: &replay.names,
         counts,
-        session,
-        port,
-        entry,
-    )? {
+    };
+    if !try_entry(alloc, &mut replay.terminal, &table, session, port, entry)? {
         return Ok(false);
     }
     note(replay, session, port, entry)?;

@@ -267,30 +267,39 @@ fn may_be_idle(
     is_quiet(terminal, known, callers)
 }
 
+/// How many callers a port has, and how many of them the phase that runs has.
+#[derive(Clone, Copy)]
+pub(crate) struct Callers {
+    pub(crate) all: usize,
+    pub(crate) of_phase: usize,
+}
+
 /// Tries an answer to a call that must wait: it can only be told so, and drops nothing.
 fn try_idle(
     terminal: &mut Terminal,
-    known: usize,
-    callers: usize,
+    callers: Callers,
     caller: u16,
     call: &Call,
     answer: &AnswerRef,
     dropped: usize,
 ) -> Result<bool, NoMemory>
-    requires many { known ≡ length terminal.old.terminal.callers }
+    requires many { callers.all ≡ length terminal.old.terminal.callers }
     requires known { caller < length terminal.old.terminal.callers }
     requires small { IsSmall terminal.old.terminal }
     requires must { MustWait
         (outcome terminal.old.terminal (caller_at terminal.old.terminal caller) (call_of call.now)) }
     ensures tries { IfOk result (λ made. Tries
-        (IsAnsweredBy terminal.old.terminal callers caller (call_of call.now) (answer_lent answer.now) dropped)
+        (IsAnsweredBy terminal.old.terminal callers.of_phase caller (call_of call.now) (answer_lent answer.now) dropped)
         (after_answer (with_dropped (left_by
         (outcome terminal.old.terminal (caller_at terminal.old.terminal caller) (call_of call.now))
         terminal.old.terminal) dropped) caller) terminal.new.terminal made) }
     ensures column { OnOk result (column_in terminal.new.terminal.disc ≡ column_in terminal.old.terminal.disc) }
 {
     let _ = call; // for the contract alone
-    if !is_idle(answer) || dropped != 0 || !may_be_idle(terminal, known, callers, caller)? {
+    if !is_idle(answer)
+        || dropped != 0
+        || !may_be_idle(terminal, callers.all, callers.of_phase, caller)?
+    {
         return Ok(false);
     }
     terminal.drop_characters(dropped as u64);
@@ -340,23 +349,22 @@ fn try_given(
     }
 }
 
-/// Tries an answer to a call, with so many characters dropped, in a phase with so many callers of so many.
+/// Tries an answer to a call, with so many characters dropped, in a phase with so many of the callers.
 pub(crate) fn try_answer(
     alloc: Global,
     terminal: &mut Terminal,
-    known: usize,
-    callers: usize,
+    callers: Callers,
     caller: u16,
     call: &Call,
     answer: &AnswerRef,
     dropped: usize,
 ) -> Result<bool, NoMemory>
-    requires many { known ≡ length terminal.old.terminal.callers }
+    requires many { callers.all ≡ length terminal.old.terminal.callers }
     requires known { caller < length terminal.old.terminal.callers }
     requires small { IsSmall terminal.old.terminal }
     requires call { IsSmallCall (call_of call.now) }
     ensures tries { IfOk result (λ made. Tries
-        (IsAnsweredBy terminal.old.terminal callers caller (call_of call.now) (answer_lent answer.now) dropped)
+        (IsAnsweredBy terminal.old.terminal callers.of_phase caller (call_of call.now) (answer_lent answer.now) dropped)
         (after_answer (with_dropped (left_by
         (outcome terminal.old.terminal (caller_at terminal.old.terminal caller) (call_of call.now))
         terminal.old.terminal) dropped) caller) terminal.new.terminal made) }
@@ -364,9 +372,17 @@ pub(crate) fn try_answer(
         (column_in terminal.new.terminal.disc ≤ column_in terminal.old.terminal.disc + COLUMNS_OF_PIECE) }
 {
     if terminal.must_wait(caller, call) {
-        return try_idle(terminal, known, callers, caller, call, answer, dropped);
+        return try_idle(terminal, callers, caller, call, answer, dropped);
     }
-    try_given(alloc, terminal, callers, caller, call, answer, dropped)
+    try_given(
+        alloc,
+        terminal,
+        callers.of_phase,
+        caller,
+        call,
+        answer,
+        dropped,
+    )
 }
 
 /// Tries a part of so many bytes of a call.

@@ -137,7 +137,8 @@ fn is_in_turn(turn: &Turn, step: usize, event: &Event) -> bool
         → IsTrue (is_of_call (event_of event.now))
         → (turn.now.first ≤ step) × (step < turn.now.first + turn.now.steps) }
     ensures end { IsTrue result → IsTrue (is_caller_end (event_of event.now)) → turn.now.first + turn.now.steps ≤ step }
-    ensures may { (IsTrue (is_of_call (event_of event.now)) → (turn.now.first ≤ step) × (step < turn.now.first + turn.now.steps))
+    ensures may { (IsTrue (is_of_call (event_of event.now))
+        → (turn.now.first ≤ step) × (step < turn.now.first + turn.now.steps))
         → (IsTrue (is_caller_end (event_of event.now)) → turn.now.first + turn.now.steps ≤ step)
         → IsTrue result }
 {

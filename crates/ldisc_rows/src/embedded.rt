@@ -56,6 +56,14 @@ const IN_ONE_CALL: &[Step] = &[
     Step::Keeps(64),
 ];
 
+/// What is edited can be read once the modes are raw.
+const RECAST: &[Step] = &[
+    Step::Types(b"ab"),
+    Step::Waits,
+    Step::Sets(b"raw", true),
+    Step::Reads(b"ab"),
+];
+
 /// A read out of canonical mode waits for MIN bytes, or for TIME after the last; and a word that is none is refused.
 const MIN_AND_TIME: &[Step] = &[
     Step::Sets(b"raw", true),
@@ -158,7 +166,7 @@ fn goes(alloc: Global, row: &[Step]) -> Result<bool, NoMemory> {
 
 #[test]
 fn a_terminal_edits_waits_raises_signals_and_holds_output(rt: HostRuntime) {
-    for row in [EDITED, IN_ONE_CALL, MIN_AND_TIME, INTERRUPTED, HELD] {
+    for row in [EDITED, IN_ONE_CALL, RECAST, MIN_AND_TIME, INTERRUPTED, HELD] {
         assert!(rt;
             goes(rt.alloc(), row) == Ok(true),
             "a row of {} steps",

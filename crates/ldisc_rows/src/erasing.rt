@@ -1,5 +1,4 @@
-//! What ERASE, WERASE and KILL take from a line that is edited, the columns of what ERASE takes, and the line's
-//! bound.
+//! What ERASE and WERASE take from a line that is edited, and the columns of what ERASE takes.
 
 use n_tty_edit::{Edit, Gone};
 use std::alloc::Global;
@@ -14,8 +13,6 @@ fn line_of(alloc: Global, bytes: &[u8]) -> Result<Edit, NoMemory> {
     }
     Ok(line)
 }
-
-fn moves<T: Send + Drop>(_value: T) {}
 
 fn gone(first: u8, bytes: usize, width: usize) -> Option<Gone> {
     Some(Gone {
@@ -67,27 +64,13 @@ fn leaves(alloc: Global, bytes: &[u8], left: &[u8]) -> Result<bool, NoMemory> {
     Ok(line.erase_word() == len && line.bytes() == left)
 }
 
-/// Whether a line of 4,095 letters takes no more, and KILL takes them all.
-fn is_bounded(line: &mut Edit) -> bool {
-    let modes = Modes::sane();
-    if line.add(0x62) || line.bytes().is_empty() {
-        return false;
-    }
-    let is_wide = line.width_of_last(0, &modes) == 1 && line.width_at(0, 0, &modes) == 1;
-    is_wide && line.kill() == 4095 && line.bytes().is_empty()
-}
-
-fn a_line_is_bounded(alloc: Global) -> Result<bool, NoMemory> {
-    let mut line = line_of(alloc, &[0x61; 4095])?;
-    let is_bounded = is_bounded(&mut line);
-    moves(line);
-    Ok(is_bounded)
-}
-
 #[test]
-fn words_are_erased_and_a_line_is_bounded(rt: HostRuntime) {
-    assert!(rt; leaves(rt.alloc(), b"foo bar", b"foo ") == Ok(true));
-    assert!(rt; leaves(rt.alloc(), b"foo_1 .. ", b"") == Ok(true));
-    assert!(rt; leaves(rt.alloc(), b"a.b\xa9", b"a.") == Ok(true));
-    assert!(rt; a_line_is_bounded(rt.alloc()) == Ok(true));
+fn erase_word_takes_a_word_and_what_follows_it(rt: HostRuntime) {
+    for (bytes, left) in [
+        (b"foo bar".as_slice(), b"foo ".as_slice()),
+        (b"foo_1 .. ", b""),
+        (b"a.b\xa9", b"a."),
+    ] {
+        assert!(rt; leaves(rt.alloc(), bytes, left) == Ok(true), "{bytes:?}");
+    }
 }

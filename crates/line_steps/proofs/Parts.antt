@@ -26,7 +26,8 @@ steps_around (p ∷ ps) (suc i) here lt is =
     ∙ sym (append_assoc (steps_of p) (steps_in (take i ps)) (steps_of here ++ steps_in (drop (suc i) ps)))
 
 -- steps that are added to the last part are added to all
-pub last_part_longer : (parts : List LinePart) (n : ℕ) (default new : LinePart) (more : List LineStep) → length parts ≡ suc n
+pub last_part_longer : (parts : List LinePart) (n : ℕ) (default new : LinePart) (more : List LineStep)
+    → length parts ≡ suc n
     → steps_of new ≡ steps_of (get_or parts n default) ++ more
     → steps_in (slice_set parts n new) ≡ steps_in parts ++ more
 last_part_longer [] n default new more count longer = absurd (omega arith)

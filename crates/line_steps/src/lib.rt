@@ -1,5 +1,4 @@
-//! The steps of a serial line, kept so that a character takes one byte where its neighbours have the same
-//! flag.
+//! The steps of a serial line, kept so that a character takes one byte where its neighbours have the same flag.
 #![tactic(auto)]
 
 ghost use Rattle.std.specs.Prelude.{◌≡◌, ◌≤◌, ◌-◌, ◌^◌, [], ◌∷◌, ◌++◌, if◌then◌else◌};
@@ -22,8 +21,7 @@ pub enum LinePart {
     One(LineStep),
 }
 
-/// The steps of a line, in order. Characters that arrive one after the other, with the same flag, take one
-/// byte each.
+/// The steps of a line, in order. Characters that arrive one after the other, with the same flag, take one byte each.
 #[derive(Debug, Drop)]
 pub struct LineSteps {
     parts: Vec<LinePart>,
@@ -145,8 +143,7 @@ impl LinePart {
     }
 }
 
-/// Adds the arrivals of these bytes to the last part, where that is a run of this flag, and answers whether it
-/// is.
+/// Adds the arrivals of these bytes to the last part, where that is a run of this flag, and answers whether it is.
 fn add_to_last(parts: &mut [LinePart], flag: Flag, bytes: &[u8]) -> Result<bool, NoMemory>
     ensures ok { IfOk result
         (λ added. steps_in parts.new ≡ steps_in parts.old ++ (if added then map (rx_step flag) bytes.now else [])) }

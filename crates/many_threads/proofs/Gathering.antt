@@ -16,7 +16,10 @@ use Rattle.port_cell.specs.Seats.{EachSeat, HasAll}
 use Rattle.tty_port.specs.Inside.{Name, EntryWithCall}
 use Rattle.tty_port.specs.Adding.{IsFull}
 use Rattle.tty_port.specs.Calls.{PortSeat}
-use Rattle.tty_port.specs.Shared.{IsHere, name_of_port, opening_history}
+use Rattle.tty_port.specs.Shared.{IsHere, HasAllOf, name_of_port, opening_history}
+use Rattle.tty_port.specs.Histories.{history_in, name_in}
+use Rattle.tty_port.specs.Placed.{IsHistoryOf}
+use Rattle.port_core.specs.Ports.{PortValue, IsPort}
 use Rattle.tty_port.specs.declared.shared.SharedPort.{SharedPort}
 use Rattle.tty_port.proofs.Seating.{AreNumbered, has_numbered}
 use Rattle.many_threads.specs.declared.crew.Crew.{Crew}
@@ -30,7 +33,7 @@ use Rattle.many_threads.specs.Parts.{StopsClock, PlaysClock, RunsLine, PlaysLine
 use Rattle.many_threads.specs.Callers.{EachCaller, IsBack, PlayedAs, SomeSawFull}
 use Rattle.many_threads.specs.Crew.{cast_of, CanRun, CrewComes, seats_of}
 use Rattle.many_threads.specs.Seats.{AreDealt}
-use Rattle.many_threads.specs.PhaseEnds.{AreSeats, AreBack, all_seats, end_of, IsNextTold}
+use Rattle.many_threads.specs.PhaseEnds.{AreSeats, AreBack, all_seats, end_of, IsClosed, IsEndBy, IsNextTold}
 use Rattle.many_threads.specs.PhaseEnds.{AreTaken, PartsArePlayed, AreStopped, Tells, ThreadsCome}
 use Rattle.many_threads.proofs.CrewLemmas.{cast_length, either_told}
 
@@ -114,6 +117,52 @@ gathered_all p seats all h is =
     subst (HasAll ((name_of_port p).callers + 4)) (sym is)
     (subst (λ (n : ℕ). HasAll n (all_seats seats)) count
     (has_numbered (all_seats seats) (are_numbered p 0 (all_seats seats) (all_are_seats p seats h))))
+
+-- the sharing ended with all seats, taken from behind what they were kept beside
+pub closed_with : (p q : SharedPort) (seats : Seats) (all : List PortSeat) (w : PortValue)
+    → q ≡ p
+    → all ≡ all_seats seats
+    → IsPort w
+    → name_in (name_of_port q).callers w ≡ name_of_port q
+    → EachSeat (HasAllOf (history_in (name_of_port q).callers w)) all
+    → IsHistoryOf (name_of_port q).callers w (history_in (name_of_port q).callers w)
+    → IsClosed p seats w
+closed_with p q seats all w same are port name each history =
+    subst (λ (s : SharedPort). IsClosed s seats w) same
+    (record {
+      port = port;
+      name = name;
+      all = subst (EachSeat (HasAllOf (history_in (name_of_port q).callers w))) are each;
+      history = history;
+    })
+
+-- what is taken of what was kept
+pub taken_of : (come back : CrewBack) (session : PortSeat) (end : PhaseEnd)
+    → back ≡ come
+    → IsEndBy come end
+    → AreTaken come session (record {
+      seats = record {
+        callers = back.callers.seats;
+        flusher = back.flusher.seat;
+        line = back.line.receiver.seat;
+        clock = back.clock.seat;
+        session = session;
+      };
+      line = back.line.receiver.line;
+      putter = back.line.receiver.putter;
+      end = end;
+    })
+taken_of come back session end same ends =
+    record {
+      callers_are = ap (λ (c : CrewBack). c.callers.seats.items) same;
+      flusher_is = ap (λ (c : CrewBack). c.flusher.seat) same;
+      line_is = ap (λ (c : CrewBack). c.line.receiver.seat) same;
+      clock_is = ap (λ (c : CrewBack). c.clock.seat) same;
+      session_is = refl;
+      played_is = ap (λ (c : CrewBack). c.line.receiver.line) same;
+      putter_is = ap (λ (c : CrewBack). c.line.receiver.putter) same;
+      ends = ends;
+    }
 
 -- ---- who saw a full journal
 
@@ -306,18 +355,19 @@ module _ (p : SharedPort) (crew : Crew) (rest : PortSeat) (come : CrewBack) (bac
     clock = clock_plays c;
   }
 
-  told : OverOr (end_of taken.next (come.callers.full || (taken.line_full || taken.clock_full))) Stopped
+  told : OverOr (end_of taken.ends.next (come.callers.full || (taken.ends.line_full || taken.ends.clock_full))) Stopped
       (PartsArePlayed p crew back)
   told =
-      ends_told taken.next come.callers.full taken.line_full taken.clock_full _ _ _ _ _ _ _ Stopped _
+      ends_told taken.ends.next come.callers.full taken.ends.line_full taken.ends.clock_full _ _ _ _ _ _ _ Stopped _
       (PartsArePlayed p crew back)
       by_callers by_line by_clock by_flusher all_played comes.callers.told
-      (either_told come.line.result taken.line_full _ _ (λ d. IsFull (name_of_port p) d (list_seen played.seat))
-      taken.line_told comes.line.ok comes.line.err comes.line.full)
-      (either_told come.clock.result taken.clock_full _ _ (λ d. IsFull (name_of_port p) d (list_seen come.clock.seat))
-      taken.clock_told comes.clock.ok comes.clock.err comes.clock.full)
-      (next_or come.flusher.result taken.next _ (λ d. IsFull (name_of_port p) d (list_seen come.flusher.seat))
-      taken.next_told comes.flusher.ok comes.flusher.full)
+      (either_told come.line.result taken.ends.line_full _ _ (λ d. IsFull (name_of_port p) d (list_seen played.seat))
+      taken.ends.line_told comes.line.ok comes.line.err comes.line.full)
+      (either_told come.clock.result taken.ends.clock_full _ _
+      (λ d. IsFull (name_of_port p) d (list_seen come.clock.seat))
+      taken.ends.clock_told comes.clock.ok comes.clock.err comes.clock.full)
+      (next_or come.flusher.result taken.ends.next _ (λ d. IsFull (name_of_port p) d (list_seen come.flusher.seat))
+      taken.ends.next_told comes.flusher.ok comes.flusher.full)
 
   pub threads_come : ThreadsCome p crew back
   threads_come = record {
@@ -325,5 +375,5 @@ module _ (p : SharedPort) (crew : Crew) (rest : PortSeat) (come : CrewBack) (bac
     callers = callers_back;
     session = ap list_seen taken.session_is ∙ fresh.session.seen;
     told = from_told p crew back back.end
-        (subst (λ (end : PhaseEnd). OverOr end Stopped (PartsArePlayed p crew back)) (sym taken.end_is) told);
+        (subst (λ (end : PhaseEnd). OverOr end Stopped (PartsArePlayed p crew back)) (sym taken.ends.end_is) told);
   }

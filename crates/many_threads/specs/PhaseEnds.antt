@@ -89,7 +89,17 @@ IsNextTold (Err denied.Full) (Some next) = ⊥
 IsNextTold (Err denied.Full) None = Unit {0}
 IsNextTold (Err denied.NoMemory) next = ⊥
 
--- all seats, and what the outcomes of all threads come to
+-- what the answers of all threads come to
+pub record IsEndBy (crew : CrewBack) (end : PhaseEnd) : Type 0 where
+  pub line_full : Bool
+  pub line_told : TellsFull crew.line.result line_full
+  pub clock_full : Bool
+  pub clock_told : TellsFull crew.clock.result clock_full
+  pub next : Option ℕ
+  pub next_told : IsNextTold crew.flusher.result next
+  pub end_is : end ≡ end_of next (crew.callers.full || (line_full || clock_full))
+
+-- all seats, the line and its putter, and what the answers of all threads come to
 pub record AreTaken (crew : CrewBack) (session : PortSeat) (back : PhaseBack) : Type 0 where
   pub callers_are : back.seats.callers.items ≡ crew.callers.seats.items
   pub flusher_is : back.seats.flusher ≡ crew.flusher.seat
@@ -98,13 +108,7 @@ pub record AreTaken (crew : CrewBack) (session : PortSeat) (back : PhaseBack) : 
   pub session_is : back.seats.session ≡ session
   pub played_is : back.line ≡ crew.line.receiver.line
   pub putter_is : back.putter ≡ crew.line.receiver.putter
-  pub line_full : Bool
-  pub line_told : TellsFull crew.line.result line_full
-  pub clock_full : Bool
-  pub clock_told : TellsFull crew.clock.result clock_full
-  pub next : Option ℕ
-  pub next_told : IsNextTold crew.flusher.result next
-  pub end_is : back.end ≡ end_of next (crew.callers.full || (line_full || clock_full))
+  pub ends : IsEndBy crew back.end
 
 -- every thread has played its part
 pub record PartsArePlayed (p : SharedPort) (crew : Crew) (back : PhaseBack) (next : ℕ) : Type 0 where

@@ -25,7 +25,7 @@ pub use line_part::Receiver;
 pub use port_ends::end_port;
 pub use seats::Seats;
 pub use shared_phase::{
-    PhaseBack, PhaseEnd, PhaseWork, crew_of, end_phase, finish_phase, share, take_together, unshare,
+    PhaseBack, PhaseEnd, PhaseWork, crew_of, finish_phase, share, take_together, unshare,
 };
 pub use start_signal::{Site, Start};
 pub use thread_bodies::{

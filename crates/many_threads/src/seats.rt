@@ -64,9 +64,10 @@ pub(crate) fn gather(seats: Seats) -> Result<Vec<Seat>, NoMemory>
         clock,
         session,
     } = seats;
-    callers.push(flusher)?;
-    callers.push(line)?;
-    callers.push(clock)?;
-    callers.push(session)?;
+    callers.reserve(4)?;
+    callers.push_reserved(flusher);
+    callers.push_reserved(line);
+    callers.push_reserved(clock);
+    callers.push_reserved(session);
     Ok(callers)
 }

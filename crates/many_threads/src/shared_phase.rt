@@ -8,7 +8,7 @@ ghost use Rattle.play_base.specs.declared.stations.Station.{Station};
 ghost use Rattle.many_threads.specs.declared.shared_phase.PhaseWork.{PhaseWork};
 ghost use Rattle.many_threads.specs.Crew.{crew_in};
 ghost use Rattle.many_threads.specs.PhaseStarts.{CanPlayPhase};
-ghost use Rattle.many_threads.specs.PhaseEnds.{AreBack, IsShared, IsClosed, IsNextTold, end_of, AreTaken};
+ghost use Rattle.many_threads.specs.PhaseEnds.{AreBack, IsShared, IsClosed, IsNextTold, end_of, IsEndBy, AreTaken};
 ghost use Rattle.many_threads.specs.PhaseEnds.{CanFinish, EndsOrStops, PhaseComes, ThreadsLeave};
 
 use crate::caller_threads::is_full;
@@ -71,7 +71,8 @@ pub fn unshare(shared: SharedPort, seats: Seats) -> Result<Port, NoMemory>
     requires { AreBack shared seats }
     ensures { IfOk result (λ port. IsClosed shared seats port) }
 {
-    let all = gather(seats)?;
+    let all = gather(seats);
+    let (shared, all) = beside(shared, all)?;
     Ok(shared.close(all))
 }
 
@@ -96,20 +97,28 @@ fn end_of(next: Option<u32>, full: bool) -> PhaseEnd
     }
 }
 
+/// What a phase comes to by what its threads were answered.
+fn end_by(back: &CrewBack) -> Result<PhaseEnd, NoMemory>
+    ensures { IfOk result (IsEndBy back.now) }
+{
+    let line_full = is_full(back.line.result)?;
+    let clock_full = is_full(back.clock.result)?;
+    let next = next_after(back.flusher.result)?;
+    Ok(end_of(next, back.callers.full || line_full || clock_full))
+}
+
 /// Takes together what the threads brought back. Memory that was wanting on one of them is wanting.
 pub fn take_together(back: CrewBack, session: Seat) -> Result<PhaseBack, NoMemory>
     ensures { IfOk result (AreTaken back session) }
 {
+    let end = end_by(&back);
+    let (back, end) = beside(back, end)?;
     let CrewBack {
         line,
         clock,
         flusher,
         callers,
     } = back;
-    let line_full = is_full(line.result)?;
-    let clock_full = is_full(clock.result)?;
-    let next = next_after(flusher.result)?;
-    let end = end_of(next, callers.full || line_full || clock_full);
     let Receiver { seat, line, putter } = line.receiver;
     Ok(PhaseBack {
         seats: Seats {
@@ -165,7 +174,7 @@ pub fn crew_of<'s>(
 }
 
 /// Ends a phase that may end.
-pub fn end_phase(port: &mut Port, putter: &mut FlipIn, next: u32) -> Result<PhaseEnd, NoMemory>
+fn end_phase(port: &mut Port, putter: &mut FlipIn, next: u32) -> Result<PhaseEnd, NoMemory>
     requires may { may_end port.old.counts port.old.terminal ≡ true }
     requires ring { putter.old.ring ≡ port.old.flip.ring }
     ensures { IfOk result (EndsOrStops port.old port.new putter.old putter.new next) }

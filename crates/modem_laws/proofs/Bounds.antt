@@ -5,9 +5,10 @@ use Rattle.passed_calls.specs.Derived.{by_caller, all_calls}
 use Rattle.passed_calls.specs.Scripts.{plain, further}
 use Rattle.passed_laws.proofs.Fewer.{by_one}
 use Rattle.modem_text.specs.Events.{ModemEvent, pin_set, own, passed, carrier_lost, ModemLog}
-use Rattle.modem_text.specs.Sessions.{ModemCall}
-use Rattle.modem_steps.specs.Derived.{plain_call, passings_from}
-use Rattle.modem_laws.proofs.LogLaws.{passed_by, passed_in}
+use Rattle.modem_text.specs.Sessions.{ModemCall, ModemSession}
+use Rattle.modem_steps.specs.Derived.{carrier_on, modem_call_at, plain_call, passings_from}
+use Rattle.logged_laws.proofs.Places.{logged_for, logged_in}
+use Rattle.modem_laws.proofs.Steps.{answer_in, modem_log}
 
 plain_one : (o : Option ModemCall) → length (plain_call o) ≤ 1
 plain_one None = omega arith
@@ -18,7 +19,7 @@ few_event : (calls : ℕ → ℕ → Option ModemCall) (carrier items c rest : �
     (events : List ModemEvent)
     → ((n : ℕ) → length (all_calls (by_caller c (passings_from calls carrier n events))) ≤ rest)
     → length (all_calls (by_caller c (passings_from calls carrier items (event ∷ events))))
-    ≤ passed_by carrier c event + rest
+    ≤ logged_for c (answer_in carrier event) + rest
 few_event calls carrier items c rest (pin_set pin up) events h = (let few = h (items + 1) in omega (arith, few))
 few_event calls carrier items c rest (own d step answer) events h = (let few = h items in omega (arith, few))
 few_event calls carrier items c rest (passed d step answer) events h =
@@ -32,10 +33,11 @@ few_event calls carrier items c rest (carrier_lost handle) events h =
     (passings_from calls carrier items events) (omega arith) in
     omega (arith, few, one))
 
-pub few_passed : (calls : ℕ → ℕ → Option ModemCall) (carrier items c : ℕ) (log : ModemLog)
-    → length (all_calls (by_caller c (passings_from calls carrier items (map (λ l. l.event) log))))
-    ≤ passed_in carrier c log
-few_passed calls carrier items c [] = omega arith
-few_passed calls carrier items c (l ∷ log) =
-    few_event calls carrier items c (passed_in carrier c log) l.event (map (λ l. l.event) log)
-    (λ n. few_passed calls carrier n c log)
+pub few_passed : (p : ℕ) (session : ModemSession) (items c : ℕ) (log : ModemLog)
+    → length (all_calls (by_caller c (passings_from (modem_call_at p session) (carrier_on p session) items
+    (map (λ l. l.event) log))))
+    ≤ logged_in (modem_log p session) c log
+few_passed p session items c [] = omega arith
+few_passed p session items c (l ∷ log) =
+    few_event (modem_call_at p session) (carrier_on p session) items c (logged_in (modem_log p session) c log) l.event
+    (map (λ l. l.event) log) (λ n. few_passed p session n c log)

@@ -1,47 +1,44 @@
 -- What an entry of a caller is that has begun no call: its end where it has no call left in the phase, and else its
 -- next call, which is for the port then.
-use Rattle.std.proofs.Common.{◌≡◌, ◌≤◌, ◌<◌, ◌⊎◌, inl, inr, ℕ, ◌+◌, ◌-◌, Bool, true, false, List, []}
-use Rattle.std.proofs.Common.{◌++◌, Option, None, Some, length, take, drop, if◌then◌else◌, refl, sym, ap, ◌∙◌, subst}
-use Rattle.std.proofs.Common.{arith}
+use Rattle.std.proofs.Common.{◌≡◌, ◌≢◌, ◌≤◌, ◌<◌, ◌⊎◌, inl, inr, ℕ, ◌+◌, Bool, true, false, List, []}
+use Rattle.std.proofs.Common.{◌∷◌, ◌++◌, Option, None, Some, length, take, drop, if◌then◌else◌, refl, sym, ap, ◌∙◌}
+use Rattle.std.proofs.Common.{subst, arith}
 use Rattle.std.specs.Prelude.{slice_get, sum}
-use Rattle.std.proofs.lemmas.Bool.{false≢true, cases_lt, eq-eqb, le-leb}
+use Rattle.std.proofs.lemmas.Bool.{false≢true, cases_lt, cases_eq, eq-eqb, le-leb, ne_eqb}
 use Rattle.std.proofs.lemmas.List.{take-append-drop, take_all, length-take-le}
-use Rattle.std.proofs.lemmas.Option.{slice_get_within, same_Some}
+use Rattle.std.proofs.lemmas.Option.{slice_get_within}
 use Rattle.tty_calls.specs.declared.journals.Who.{Who}
 use Rattle.tty_calls.specs.declared.journals.Who.TheVariants.{Caller, Session}
-use Rattle.tty_calls.specs.Plain.{PlainCall, PlainAnswer, PlainEvent, caller_ended, PlainEntry, is_caller}
+use Rattle.tty_calls.specs.Plain.{PlainCall, PlainAnswer, caller_ended, PlainEntry}
 use Rattle.tty_calls.specs.Sessions.{PlainSession, call_at, counts_on}
 use Rattle.tty_terminal.specs.Terminals.{Terminal, opening, caller_at, has_begun}
-use Rattle.tty_terminal.specs.Steps.{IsAllowed}
-use Rattle.tty_terminal.specs.Runs.{Leads as Run, is_of_call, phase_after}
+use Rattle.tty_terminal.specs.Steps.{IsAllowed as IsEntryAllowed}
+use Rattle.tty_terminal.specs.Runs.{Leads as Run, is_of_call}
 use Rattle.tty_terminal.proofs.WaitLaws.{run_waits}
-use Rattle.legal_runs.specs.Legal.{flip_on, IsInPhase, IsCallOf}
+use Rattle.legal_runs.specs.Legal.{flip_on}
 use Rattle.one_order.specs.Order.{Place, first_place as place_first, place_after, is_waiting}
 use Rattle.one_order.proofs.Places.{leads_place}
 use Rattle.passed_calls.specs.Journals.{terminal_at}
 use Rattle.passed_calls.specs.Scripts.{plain, further}
-use Rattle.passed_laws.proofs.Comings.{caller_event, same_phase, part_begun}
-use Rattle.passed_laws.proofs.Fewer.{first_rises, by_next}
-use Rattle.passed_laws.proofs.Journeys.{answer_count, answers_of, answers_in, answers_split, answers_later, between}
-use Rattle.passed_laws.proofs.Journeys.{drop_one, one_for, answer_there, to_here, allowed_at, in_phase_at, next_at}
-use Rattle.passed_laws.proofs.Journeys.{begun_later, over_later, phase_later, entry_step, begins_at, ends_at}
-use Rattle.passed_laws.proofs.Journeys.{next_counts as counts_next, phase_behind as goes_behind}
-use Rattle.modem_text.specs.Events.{ModemLog}
+use Rattle.passed_laws.proofs.Comings.{caller_event, part_begun}
+use Rattle.passed_laws.proofs.Journeys.{answers_in, drop_one, one_for, to_here, allowed_at}
+use Rattle.passed_laws.proofs.Steps.{step_other}
+use Rattle.logged_laws.proofs.Ahead.{Search, ahead as first_ahead}
+use Rattle.logged_laws.proofs.Entries.{stays_over, none_answered, is_answered, under_way, of_next as next_answered}
+use Rattle.logged_laws.proofs.Places.{IsPast, Here, logged_for, logged_in, few_behind, no_due}
+use Rattle.modem_text.specs.Events.{ModemEvent, pin_set, own, passed, carrier_lost, ModemLog}
 use Rattle.modem_text.specs.Sessions.{ModemCall, ModemSession}
-use Rattle.modem_steps.specs.Derived.{call_in_phase}
-use Rattle.modem_steps.specs.Steps.{Port, ModemState, first_state, next_of, next_call, IsOfCall, OwnAnswer, Leads}
-use Rattle.modem_steps.specs.Order.{goes_on, modem_turn, own_turn, place_at, state_before, AreEventsInTurn}
-use Rattle.modem_steps.specs.Order.{AreEntriesInTurn}
+use Rattle.modem_steps.specs.Derived.{carrier_on, call_in_phase}
+use Rattle.modem_steps.specs.Steps.{Port, ModemState, first_state, next_of, next_call, answered_for, IsOfCall}
+use Rattle.modem_steps.specs.Steps.{OwnAnswer, IsOwn, IsPassed, IsAllowed, after_event}
+use Rattle.modem_steps.specs.Order.{goes_on, modem_turn, own_turn, place_at, state_before, AreEntriesInTurn}
+use Rattle.modem_steps.specs.Order.{IsEventInTurn}
 use Rattle.modem_one.specs.Played.{port_in}
-use Rattle.modem_laws.proofs.LogLaws.{carrier_of, passed_in, IsPast, NoMore, PassedNext, PinNext, ahead}
-use Rattle.modem_laws.proofs.LogLaws.{OwnCall, PassedCall, calls_ahead}
+use Rattle.modem_laws.proofs.Steps.{answer_in, modem_log, log_steps}
 use Rattle.modem_laws.proofs.Turns.{own_case, goes_case, told_case, by_part, by_wait, by_test, Goes, past_turn, turn_in}
-use Rattle.modem_laws.proofs.Whole.{IsCallIn, call_in, one_phase, Whole}
+use Rattle.modem_laws.proofs.Whole.{call_in, call_phase, Whole}
 
 -- ---- small truths
-
-abbrev one_if : Bool → ℕ
-one_if b = if b then 1 else 0
 
 -- the entry begins the caller's next call, which is for the port
 pub record Begins (port : Port) (u : ModemState) (n c : ℕ) (e : PlainEntry) : Type 0 where
@@ -77,6 +74,96 @@ passed_some : (port : Port) (c step : ℕ) (o : Option ModemCall)
 passed_some port c step None h = absurd h
 passed_some port c step (Some call) h = (call, refl)
 
+-- ---- the next event that is about a caller
+
+-- a call of another caller is answered
+other_next : (s : ModemState) (c d : ℕ) → c ≢ d → next_of (answered_for s d) c ≡ next_of s c
+other_next s c d other = step_other s.next d c (next_of s d + 1) other
+
+no_one : (c d : ℕ) → c ≢ d → one_for c d ≡ 0
+no_one c d other = ap (λ (b : Bool). if b then 1 else 0) (ne_eqb d c (λ e. other (sym e)))
+
+-- it answers a call of the caller
+abbrev Answers : ℕ → ModemEvent → Type 0
+Answers c (pin_set pin up) = ⊥
+Answers c (own d step answer) = d ≡ c
+Answers c (passed d step answer) = d ≡ c
+Answers c (carrier_lost handle) = ⊥
+
+-- .. or is an item of the modem block, where the caller is `carrier`
+abbrev IsAbout : (carrier c : ℕ) → ModemEvent → Type 0
+IsAbout k c (pin_set pin up) = c ≡ k
+IsAbout k c (own d step answer) = d ≡ c
+IsAbout k c (passed d step answer) = d ≡ c
+IsAbout k c (carrier_lost handle) = ⊥
+
+module _ (p : ℕ) (session : ModemSession) (played : PlainSession) (journal : List PlainEntry) (n c : ℕ) where
+  abbrev carrier : ℕ
+  carrier = carrier_on p session
+
+  abbrev its_port : Port
+  its_port = port_in session played p journal
+
+  -- an event of others leaves the caller's next call, and this stays true
+  abbrev OfOthers : Type 0 → (ModemState → Type 0) → ModemState → ℕ → ModemEvent → Type 0
+  OfOthers IsCounted Stays s at event =
+      (next_of (after_event its_port s at event) c ≡ next_of s c)
+      × (IsCounted → logged_for c (answer_in carrier event) ≡ 0) × Stays (after_event its_port s at event)
+
+  -- where it is `carrier` no hangup is due
+  abbrev IsFree : ModemState → Type 0
+  IsFree s = c ≡ carrier → s.due ≡ []
+
+  about : (s : ModemState) (at : ℕ) (event : ModemEvent)
+      → IsFree s
+      → IsAllowed its_port s at event
+      → IsAbout carrier c event ⊎ OfOthers (Unit {0}) IsFree s at event
+  about s at (pin_set pin up) free h = elim (cases_eq c carrier) [
+    | inl same ↦ inl same
+    | inr other ↦ inr (refl, λ counts. refl, λ e. absurd (other e))
+  ]
+  about s at (own d step answer) free h = elim (cases_eq c d) [
+    | inl same ↦ inl (sym same)
+    | inr other ↦ inr (other_next s c d other, λ counts. refl, free)
+  ]
+  about s at (passed d step answer) free h = elim (cases_eq c d) [
+    | inl same ↦ inl (sym same)
+    | inr other ↦ inr (other_next s c d other, λ counts. no_one c d other, free)
+  ]
+  about s at (carrier_lost handle) free h = elim (cases_eq c carrier) [
+    | inl same ↦ no_due s.due handle [] (free same) h.is_due
+    | inr other ↦ inr (refl, λ counts. no_one c carrier other, λ e. absurd (other e))
+  ]
+
+  answers : (s : ModemState) (at : ℕ) (event : ModemEvent) → Answers c event ⊎ OfOthers ⊥ (λ s. Unit {0}) s at event
+  answers s at (pin_set pin up) = inr (refl, λ never. absurd never, tt)
+  answers s at (own d step answer) = elim (cases_eq c d) [
+    | inl same ↦ inl (sym same)
+    | inr other ↦ inr (other_next s c d other, λ never. absurd never, tt)
+  ]
+  answers s at (passed d step answer) = elim (cases_eq c d) [
+    | inl same ↦ inl (sym same)
+    | inr other ↦ inr (other_next s c d other, λ never. absurd never, tt)
+  ]
+  answers s at (carrier_lost handle) = inr (refl, λ never. absurd never, tt)
+
+  abbrev search : Search (modem_log p session) played journal n c
+  search = record {
+    IsAbout = IsAbout carrier c;
+    Stays = IsFree;
+    IsCounted = Unit {0};
+    either = λ s at event free late h. about s at event free h;
+  }
+
+  -- its next call, whatever hangs up
+  abbrev search_answers : Search (modem_log p session) played journal n c
+  search_answers = record {
+    IsAbout = Answers c;
+    Stays = λ s. Unit {0};
+    IsCounted = ⊥;
+    either = λ s at event stays late h. answers s at event;
+  }
+
 module _ (p : ℕ) (session : ModemSession) (played : PlainSession) (journal : List PlainEntry) (last : Terminal)
     (end : ModemState) (whole : ModemLog) (w : Whole p session played journal last end whole) where
   abbrev port : Port
@@ -97,10 +184,7 @@ module _ (p : ℕ) (session : ModemSession) (played : PlainSession) (journal : L
   pub place_is : (n : ℕ) → (place n).terminal ≡ at n
   place_is n =
       leads_place f (counts_on p played) (place_first p played) first (take n journal) (at n) refl
-      (to_here p played first last journal w.journey n)
-
-  next_counts : (n c : ℕ) → (caller_at (at n) c).next ≡ answers_in c (take n journal)
-  next_counts n c = counts_next p played last journal n c w.journey
+      (to_here p played first last journal w.run.journey n)
 
   -- an entry is made by the one whose turn it is
   pub who_of : (u : ModemState) (n : ℕ) (e : PlainEntry)
@@ -129,19 +213,13 @@ module _ (p : ℕ) (session : ModemSession) (played : PlainSession) (journal : L
         let there : (place n).terminal ≡ last =
         leads_place f (counts_on p played) (place_first p played) first (take n journal) last refl
         (subst (λ (es : List PlainEntry). Run f (counts_on p played) first es last)
-        (sym (take_all n journal ge)) w.journey.leads) in
+        (sym (take_all n journal ge)) w.run.journey.leads) in
         let phase : (place n).terminal.phase ≡ length played.phases =
         ap (λ (t : Terminal). t.phase) there ∙ w.ends in
         let past : length played.phases ≤ (place n).terminal.phase = omega (arith, phase) in
         absurd (other (past_turn played port u (place n)
         (le-leb (length played.phases) (place n).terminal.phase past)))
   ]
-
-  phase_behind : (n : ℕ) (e : PlainEntry)
-      → slice_get journal n ≡ Some e
-      → phase_after e.event (at n).phase ≡ (at n).phase
-      → (at (n + 1)).phase ≡ (at n).phase
-  phase_behind n e is same = goes_behind p played first last journal w.journey n e is same
 
   -- who goes on and has begun no call is not over
   goes_over : (n c : ℕ)
@@ -152,10 +230,10 @@ module _ (p : ℕ) (session : ModemSession) (played : PlainSession) (journal : L
       → Goes played port u (place n) idle c
       → (caller_at (at n) c).over ≡ false
   goes_over n c within rest u idle (by_part part) =
-      absurd (false≢true (sym rest ∙ part_begun p played last journal n c w.journey within part))
+      absurd (false≢true (sym rest ∙ part_begun p played last journal n c w.run.journey within part))
   goes_over n c within rest u idle (by_wait waits) =
       let begun = run_waits f (counts_on p played) (flip_on p played) (take n journal) (at n)
-      (to_here p played first last journal w.journey n) c
+      (to_here p played first last journal w.run.journey n) c
       (subst (λ (t : Terminal). is_waiting t c ≡ true) (place_is n) waits) in
       absurd (false≢true (sym rest ∙ begun))
   goes_over n c within rest u idle (by_test over) =
@@ -174,42 +252,11 @@ module _ (p : ℕ) (session : ModemSession) (played : PlainSession) (journal : L
         (told_case played port u (place n) idle c (turned ∙ told))
   ]
 
-  module _ (u : ModemState) (log : ModemLog) (n c : ℕ) (e : PlainEntry) (leads : Leads port u log end)
-      (turns : AreEventsInTurn played port u log) (idle : u.due ≡ []) (past : IsPast n log)
-      (counted : (d : ℕ) → passed_in (carrier_of port) d log ≡ answers_in d (drop n journal))
-      (here : slice_get journal n ≡ Some e)
-      (who : e.who ≡ Caller c) (rest : has_begun (caller_at (at n) c) ≡ false) where
-    allowed : IsAllowed f (counts_on p played) (at n) (Caller c) e.step e.part e.event
-    allowed = subst (λ (x : Who). IsAllowed f (counts_on p played) (at n) x e.step e.part e.event) who
-        (allowed_at p played first last journal w.journey n e here).1
-
-    in_phase : IsInPhase p played (at n).phase (Caller c) e.step e.event
-    in_phase = subst (λ (x : Who). IsInPhase p played (at n).phase x e.step e.event) who
-        (in_phase_at p played first last journal w.journey n e here)
-
-    -- from this entry on it has so many answers
-    from_here : answers_in c (drop n journal) ≡ answers_of c e + answers_in c (drop (n + 1) journal)
-    from_here = ap (λ (es : List PlainEntry). answers_in c es) (drop_one n journal e here)
-
-    own_answers : answers_of c e ≡ answer_count e.event
-    own_answers = ap (λ (b : Bool). if b then answer_count e.event else 0)
-        (ap (λ (x : Who). is_caller x c) who ∙ eq-eqb c c refl)
-
-    within : n + 1 ≤ length journal
-    within = (let lt = slice_get_within journal n e here in omega (arith, lt))
-
+  module _ (u : ModemState) (log : ModemLog) (n c : ℕ) (e : PlainEntry)
+      (h : Here (modem_log p session) played journal end u log n) (idle : u.due ≡ []) (past : IsPast n log)
+      (here : slice_get journal n ≡ Some e) (who : e.who ≡ Caller c)
+      (rest : has_begun (caller_at (at n) c) ≡ false) where
     -- ---- its end
-
-    over_at : (m : ℕ)
-        → e.event ≡ caller_ended
-        → n + 1 ≤ m
-        → (at m).phase ≡ (at n).phase
-        → (caller_at (at m) c).over ≡ true
-    over_at m event le same =
-        let behind : (at (n + 1)).phase ≡ (at n).phase =
-        phase_behind n e here (ap (λ (x : PlainEvent). phase_after x (at n).phase) event) in
-        over_later p played first last journal w.journey (n + 1) m c le (same ∙ sym behind)
-        (ends_at p played first last journal w.journey n c e here who event)
 
     by_no_more : next_of end c ≡ next_of u c → (call : ModemCall) → next_call port u (at n) c ≡ Some call → ⊥
     by_no_more none call is =
@@ -218,182 +265,137 @@ module _ (p : ℕ) (session : ModemSession) (played : PlainSession) (journal : L
         let to = its.all in
         absurd (omega (arith, none, all, to))
 
-    own_ends : e.event ≡ caller_ended
-        → OwnCall played port u c n
-        → (call : ModemCall)
-        → next_call port u (at n) c ≡ Some call
-        → ⊥
-    own_ends event o call is =
-        let some = own_some port o.state (at o.at) c (next_call port o.state (at o.at) c) o.answer o.is.answers in
-        let its : IsCallIn p session (at o.at).phase c (next_of u c) =
-        call_in p session (at o.at).phase c (next_of u c) some.0
-        (ap (λ (m : ℕ). call_in_phase p session (at o.at).phase c m) (sym o.same) ∙ some.1) in
-        let same = one_phase p session (at o.at).phase (at n).phase c (next_of u c) its
-        (call_in p session (at n).phase c (next_of u c) call is) in
-        let late = o.late in
-        let over = over_at o.at event (omega (arith, late)) same in
-        let not_over = turn_not_over o.state o.at c (next_call port o.state (place_at played port o.at).terminal c)
-        o.is.nothing_due o.within o.turn o.is.between in
-        false≢true (sym not_over ∙ over)
+    -- the call that is answered next is of another phase
+    other_phase : (m : ℕ) (s : ModemState) (theirs mine : ModemCall)
+        → next_of s c ≡ next_of u c
+        → next_call port s (at m) c ≡ Some theirs
+        → next_call port u (at n) c ≡ Some mine
+        → (at m).phase ≡ (at n).phase
+    other_phase m s theirs mine same there here_is =
+        call_phase p session (at m).phase (at n).phase c (next_of u c)
+        (call_in p session (at m).phase c (next_of u c) theirs
+        (ap (λ (i : ℕ). call_in_phase p session (at m).phase c i) (sym same) ∙ there))
+        (call_in p session (at n).phase c (next_of u c) mine here_is)
 
-    passed_ends : e.event ≡ caller_ended
-        → PassedCall port u c n
-        → (call : ModemCall)
-        → next_call port u (at n) c ≡ Some call
-        → ⊥
-    passed_ends event o call is =
-        let late = o.late in
-        let some = o.is.entry.some in
-        let m = o.at - 1 in
-        let answer = o.is.entry.entry in
-        let stands : slice_get journal m ≡ Some answer = o.is.entry.stands in
-        let of_call : is_of_call answer.event ≡ true = ap is_of_call o.is.entry.is_answer.1.1 in
-        let back : m + 1 ≡ o.at = omega (arith, some) in
-        let here_phase : (at o.at).phase ≡ (at m).phase =
-        ap (λ (k : ℕ). (at k).phase) (sym back)
-        ∙ phase_behind m answer stands (same_phase answer.event (at m).phase of_call) in
-        let its_call = passed_some port c answer.step (next_call port o.state (at o.at) c) o.is.of_call in
-        let its : IsCallIn p session (at o.at).phase c (next_of u c) =
-        call_in p session (at o.at).phase c (next_of u c) its_call.0
-        (ap (λ (x : ℕ). call_in_phase p session (at o.at).phase c x) (sym o.same) ∙ its_call.1) in
-        let same = one_phase p session (at o.at).phase (at n).phase c (next_of u c) its
-        (call_in p session (at n).phase c (next_of u c) call is) in
-        let other : n ≡ m → ⊥ = λ is.
-        let twice : answer ≡ e =
-        same_Some answer e (sym stands ∙ (ap (λ (k : ℕ). slice_get journal k) (sym is) ∙ here)) in
-        false≢true (sym (ap is_of_call event) ∙ (ap (λ (x : PlainEntry). is_of_call x.event) (sym twice) ∙ of_call)) in
-        let le : n + 1 ≤ m = behind_other n m (omega (arith, late, some)) other in
-        let over = over_at m event le (sym here_phase ∙ same) in
-        let not_over = (entry_step p played first last journal w.journey m c answer stands o.is.entry.is_answer.0
-        of_call).1 in
-        false≢true (sym not_over ∙ over)
-      where
-        behind_other : (a b : ℕ) → a ≤ b → (a ≡ b → ⊥) → a + 1 ≤ b
-        behind_other a b le ne = elim (cases_lt a b) [
-          | inl lt ↦ omega (arith, lt)
-          | inr ge ↦ absurd (ne (omega (arith, le, ge)))
-        ]
-
-    -- ---- its next call
-
-    step_here : is_of_call e.event ≡ true → IsCallOf p played (at n).phase c (caller_at (at n) c).next
-    step_here of_call =
-        subst (λ (m : ℕ). IsCallOf p played (at n).phase c m)
-        (entry_step p played first last journal w.journey n c e here who of_call).0 (in_phase.1 of_call)
-
-    -- no answer is left where none is logged
-    never_asked : is_of_call e.event ≡ true → NoMore u end (carrier_of port) log c → ⊥
-    never_asked of_call more =
-        let below = (step_here of_call).1 in
-        let bound = w.bounds (at n).phase c in
-        let next = next_counts n c in
-        let parts = answers_split c n journal in
-        absurd (omega (arith, below, bound, next, parts, more.none, counted c))
-
-    -- what comes between calls does not come while this one is under way
-    under_way : (m : ℕ)
-        → is_of_call e.event ≡ true
+    found_ends : e.event ≡ caller_ended
+        → (s : ModemState) (m : ℕ) (event : ModemEvent)
+        → Answers c event
+        → IsAllowed port s m event
+        → IsEventInTurn played port s (place_at played port m) event
         → n < m
-        → passed_in (carrier_of port) c log ≤ answers_in c (drop m journal)
-        → has_begun (caller_at (at m) c) ≡ false
+        → m ≤ length journal
+        → next_of s c ≡ next_of u c
+        → (call : ModemCall)
+        → next_call port u (at n) c ≡ Some call
         → ⊥
-    under_way m of_call late few none_begun =
-        let parts = answers_later c (n + 1) m journal (omega (arith, late)) in
-        let none : answers_of c e ≡ 0 = omega (arith, few, parts, from_here, counted c) in
-        let none_between : answers_in c (between (n + 1) m journal) ≡ 0 =
-        omega (arith, few, parts, from_here, counted c) in
-        let begun = begins_at p played first last journal w.journey n c e here who of_call (sym own_answers ∙ none) in
-        let later = begun_later p played first last journal w.journey (n + 1) m c (omega (arith, late)) none_between
-        begun in
-        false≢true (sym none_begun ∙ later)
-
-    pin_never : is_of_call e.event ≡ true → PinNext port log c n → ⊥
-    pin_never of_call o =
-        under_way o.at of_call o.late o.few
-        (ap (λ (x : ℕ). has_begun (caller_at (at o.at) x)) o.its ∙ o.is.between)
-
-    passed_begins : is_of_call e.event ≡ true → PassedNext port u log c n → Begins port u n c e
-    passed_begins of_call o =
-        let late = o.late in
-        let some = o.is.entry.some in
-        let few = o.few in
-        let m = o.at - 1 in
-        let k = (caller_at (at n) c).next in
-        let answer = o.is.entry.entry in
-        let stands : slice_get journal m ≡ Some answer = o.is.entry.stands in
-        let answers_call : is_of_call answer.event ≡ true = ap is_of_call o.is.entry.is_answer.1.1 in
-        let its = entry_step p played first last journal w.journey m c answer stands o.is.entry.is_answer.0
-        answers_call in
-        let one = answer_there port.journal c c o.at o.answer o.is.entry in
-        let self : one_for c c ≡ 1 = ap (λ (b : Bool). one_if b) (eq-eqb c c refl) in
-        let parts = answers_later c n m journal (omega (arith, late, some)) in
-        let none : answers_in c (between n m journal) ≡ 0 = omega (arith, one, self, parts, few, counted c) in
-        let next = next_at p played first last journal w.journey n m c (omega (arith, late, some)) in
-        let step : answer.step ≡ k = its.0 ∙ (let x : (caller_at (at m) c).next ≡ k = omega (arith, next, none) in x) in
-        let back : m + 1 ≡ o.at = omega (arith, some) in
-        let here_phase : (at o.at).phase ≡ (at m).phase =
-        ap (λ (i : ℕ). (at i).phase) (sym back)
-        ∙ phase_behind m answer stands (same_phase answer.event (at m).phase answers_call) in
-        let mine = step_here of_call in
-        let its_phase : IsInPhase p played (at m).phase (Caller c) answer.step answer.event =
-        subst (λ (x : Who). IsInPhase p played (at m).phase x answer.step answer.event) o.is.entry.is_answer.0
-        (in_phase_at p played first last journal w.journey m answer stands) in
-        let theirs : IsCallOf p played (at m).phase c k =
-        subst (λ (i : ℕ). IsCallOf p played (at m).phase c i) step (its_phase.1 answers_call) in
-        let up = phase_later p played first last journal w.journey n m (omega (arith, late, some)) in
-        let phase : (at m).phase ≡ (at n).phase = one_of (at n).phase (at m).phase k up mine theirs in
-        let call = of_next port c answer.step (next_call port o.state (at o.at) c) o.is.of_call in
-        let next_is : next_call port u (at n) c ≡ next_call port o.state (at o.at) c =
-        (λ i. call_in_phase p session (sym (here_phase ∙ phase) i) c (sym o.same i)) in
-        record {
-          of_call = of_call;
-          call = call.0;
-          next = next_is ∙ call.1;
-          asked = ap (λ (i : ℕ). f c i) (sym step) ∙ call.2;
-        }
-      where
-        -- a step is of one phase of the session that was played
-        one_of : (j i m : ℕ)
-            → j ≤ i
-            → IsCallOf p played j c m
-            → IsCallOf p played i c m
-            → i ≡ j
-        one_of j i m le mine theirs = elim (cases_lt j i) [
-          | inl lt ↦
-              (let next = by_next p played j c in
-              let rise = first_rises p played (j + 1) i c (omega (arith, lt)) in
-              let below = mine.1 in
-              let above = theirs.0 in
-              absurd (omega (arith, next, rise, below, above)))
-          | inr ge ↦ omega (arith, le, ge)
-        ]
-
-    call_begins : is_of_call e.event ≡ true → Begins port u n c e
-    call_begins of_call = elim (ahead played port u end log c n leads turns (λ its. idle) past) [
-      | inl more ↦ absurd (never_asked of_call more)
-      | inr some ↦ elim some [
-        | inl own_one ↦ absurd (under_way own_one.at of_call own_one.late own_one.few own_one.is.between)
-        | inr others ↦ elim others [
-          | inl passed_one ↦ passed_begins of_call passed_one
-          | inr pin_one ↦ absurd (pin_never of_call pin_one)
-        ]
-      ]
-    ]
+    found_ends ended s m (pin_set pin up) about allowed turned late within same call is = about
+    found_ends ended s m (own d step answer) about allowed turned late within same call is =
+        let owns : IsOwn port s (at m) c step answer =
+        subst (λ (i : ℕ). IsOwn port s (at m) i step answer) about allowed in
+        let turn : modem_turn played port s (place_at played port m)
+        ≡ own_turn (next_call port s (place_at played port m).terminal c) c =
+        subst (λ (i : ℕ). modem_turn played port s (place_at played port m)
+        ≡ own_turn (next_call port s (place_at played port m).terminal i) i) about turned in
+        let some = own_some port s (at m) c (next_call port s (at m) c) answer owns.answers in
+        let over = stays_over p played journal last w.run.journey n c e here who m ended late
+        (other_phase m s some.0 call same some.1 is) in
+        let runs = turn_not_over s m c (next_call port s (place_at played port m).terminal c) owns.nothing_due within
+        turn owns.between in
+        false≢true (sym runs ∙ over)
+    found_ends ended s m (passed d step answer) about allowed turned late within same call is =
+        let its : IsPassed port s m c step answer = subst (λ (i : ℕ). IsPassed port s m i step answer) about allowed in
+        let some = passed_some port c its.entry.entry.step (next_call port s (at m) c) its.of_call in
+        none_answered p played journal last w.run.journey n c e here who m answer ended its.entry late
+        (other_phase m s some.0 call same some.1 is)
+    found_ends ended s m (carrier_lost handle) about allowed turned late within same call is = about
 
     call_ends : e.event ≡ caller_ended → Ends port u n c e
     call_ends event = record {
       event = event;
-      none_left = elim (calls_ahead played port u end log c n leads turns past) [
-        | inl none ↦ by_no_more none
-        | inr some ↦ elim some [
-          | inl own_one ↦ own_ends event own_one
-          | inr passed_one ↦ passed_ends event passed_one
-        ]
-      ];
+      none_left = elim (first_ahead (modem_log p session) p played journal (log_steps p session played journal) n c
+          (search_answers p session played journal n c) u end log h.leads h.turns tt past) [
+            | inl more ↦ by_no_more more.next
+            | inr x ↦ found_ends event x.state x.head.at x.head.event x.about x.leads.2 x.turns.0 x.late x.leads.1
+                x.same
+          ];
     }
 
+    -- ---- its next call
+
+    module _ (of_call : is_of_call e.event ≡ true) where
+      passed_begins : (s : ModemState) (m step : ℕ) (answer : PlainAnswer)
+          → (is : IsPassed port s m c step answer)
+          → n < m
+          → next_of s c ≡ next_of u c
+          → answers_in c (drop n journal) ≤ 1 + answers_in c (drop m journal)
+          → Begins port u n c e
+      passed_begins s m step answer is late same few =
+          let its =
+          next_answered p played journal last w.run.journey n c e here who of_call m answer is.entry late few in
+          let call = of_next port c is.entry.entry.step (next_call port s (at m) c) is.of_call in
+          let next_is : next_call port u (at n) c ≡ next_call port s (at m) c =
+          (λ i. call_in_phase p session (sym its.phase i) c (sym same i)) in
+          record {
+            of_call = of_call;
+            call = call.0;
+            next = next_is ∙ call.1;
+            asked = ap (λ (i : ℕ). f c i) (sym its.step) ∙ call.2;
+          }
+
+      -- what comes between calls does not come while this one is under way
+      never_between : (m : ℕ)
+          → n < m
+          → answers_in c (drop n journal) ≤ answers_in c (drop m journal)
+          → has_begun (caller_at (at m) c) ≡ false
+          → ⊥
+      never_between m late few none_begun =
+          false≢true (sym none_begun
+          ∙ under_way p played journal last w.run.journey n c e here who of_call m late few)
+
+      found_begins : (s : ModemState) (m : ℕ) (event : ModemEvent)
+          → IsAbout (carrier_on p session) c event
+          → IsAllowed port s m event
+          → n < m
+          → next_of s c ≡ next_of u c
+          → answers_in c (drop n journal)
+          ≤ logged_for c (answer_in (carrier_on p session) event) + answers_in c (drop m journal)
+          → Begins port u n c e
+      found_begins s m (pin_set pin up) about allowed late same few =
+          absurd (never_between m late (omega (arith, few))
+          (ap (λ (i : ℕ). has_begun (caller_at (at m) i)) about ∙ allowed.between))
+      found_begins s m (own d step answer) about allowed late same few =
+          absurd (never_between m late (omega (arith, few))
+          (ap (λ (i : ℕ). has_begun (caller_at (at m) i)) (sym about) ∙ allowed.between))
+      found_begins s m (passed d step answer) about allowed late same few =
+          let one : one_for c d ≡ 1 = ap (λ (b : Bool). if b then 1 else 0) (eq-eqb d c about) in
+          passed_begins s m step answer (subst (λ (i : ℕ). IsPassed port s m i step answer) about allowed) late same
+          (omega (arith, few, one))
+      found_begins s m (carrier_lost handle) about allowed late same few = absurd about
+
+      call_begins : Begins port u n c e
+      call_begins = elim (first_ahead (modem_log p session) p played journal (log_steps p session played journal) n c
+          (search p session played journal n c) u end log h.leads h.turns (λ its. idle) past) [
+            | inl more ↦
+                (let none : logged_in (modem_log p session) c log ≡ 0 = more.none tt in
+                let all = h.counted c in
+                absurd (is_answered p played journal last w.run.journey n c e here who of_call (λ j. w.bounds j c)
+                (omega (arith, none, all))))
+            | inr x ↦
+                (let count : logged_in (modem_log p session) c log
+                ≡ logged_in (modem_log p session) c (x.head ∷ x.rest) = x.count tt in
+                let all = h.counted c in
+                let later = few_behind (modem_log p session) p played journal (log_steps p session played journal)
+                x.state end x.head x.rest c x.leads in
+                found_begins x.state x.head.at x.head.event x.about x.leads.2 x.late x.same
+                (omega (arith, count, all, later)))
+          ]
+
     pub decides : Ends port u n c e ⊎ Begins port u n c e
-    decides = elim (caller_event f (counts_on p played) (at n) c e.step e.part e.event allowed) [
-      | inl of_call ↦ inr (call_begins of_call)
-      | inr ended ↦ inl (call_ends ended)
-    ]
+    decides =
+        let allowed : IsEntryAllowed f (counts_on p played) (at n) (Caller c) e.step e.part e.event =
+        subst (λ (x : Who). IsEntryAllowed f (counts_on p played) (at n) x e.step e.part e.event) who
+        (allowed_at p played first last journal w.run.journey n e here).1 in
+        elim (caller_event f (counts_on p played) (at n) c e.step e.part e.event allowed) [
+          | inl of_call ↦ inr (call_begins of_call)
+          | inr ended ↦ inl (call_ends ended)
+        ]

@@ -1,10 +1,8 @@
 mod Bounds
 mod Deciding
-mod LogLaws
+mod Heads
 pub mod OnePort
-mod OneReport
-mod Settling
-mod Stepping
+mod Steps
 mod Turns
-mod TwoLogs
+mod TwoRuns
 mod Whole

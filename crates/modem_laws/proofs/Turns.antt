@@ -15,7 +15,7 @@ use Rattle.tty_terminal.specs.Runs.{is_of_call}
 use Rattle.one_order.specs.Order.{Place, next_place, place_after, turn, due, is_waiting, must_wait}
 use Rattle.order_laws.specs.Growth.{HasShape}
 use Rattle.order_laws.proofs.Growing.{WaitAlike, turn_same}
-use Rattle.order_laws.proofs.OneRun.{AreOrderly}
+use Rattle.order_laws.proofs.NextEntry.{AreOrderly}
 use Rattle.order_laws.proofs.Shapes.{phases_same}
 use Rattle.order_laws.proofs.TheEntry.{is_fixed}
 use Rattle.passed_laws.proofs.Comings.{IsPartBy}

@@ -1,18 +1,20 @@
 -- What is known of a whole run of a port with modem lines, with the log beside it.
-use Rattle.std.proofs.Common.{◌≡◌, ◌≤◌, ◌<◌, inl, inr, ℕ, ◌+◌, Bool, true, false, List, []}
+use Rattle.std.proofs.Common.{◌≡◌, ◌≤◌, ◌<◌, ℕ, ◌+◌, Bool, true, false, List}
 use Rattle.std.proofs.Common.{Option, None, Some, length, take, drop, if◌then◌else◌, refl, ap, arith}
 use Rattle.std.proofs.Common.{length-append}
-use Rattle.std.specs.Prelude.{slice_get, sum, nat_lt}
-use Rattle.std.proofs.lemmas.Bool.{cases_lt}
+use Rattle.std.specs.Prelude.{slice_get, nat_lt}
 use Rattle.std.proofs.lemmas.Bool.Decides.{nat_tests}
 use Rattle.std.proofs.lemmas.List.{take-take}
 use Rattle.std.proofs.lemmas.Option.{slice_get_within}
 use Rattle.tty_calls.specs.Plain.{PlainEntry}
-use Rattle.tty_calls.specs.Sessions.{PlainSession, counts_on}
-use Rattle.tty_terminal.specs.Terminals.{Terminal, opening}
-use Rattle.legal_runs.specs.Legal.{first_step, steps_in, flip_on}
+use Rattle.tty_calls.specs.Sessions.{PlainSession}
+use Rattle.tty_terminal.specs.Terminals.{Terminal}
+use Rattle.legal_runs.specs.Legal.{first_step, steps_in}
 use Rattle.one_order.specs.Order.{first_place}
-use Rattle.passed_laws.proofs.Journeys.{Journey, answers_in}
+use Rattle.passed_laws.proofs.Journeys.{answers_in}
+use Rattle.logged_laws.proofs.Entries.{one_phase}
+use Rattle.logged_laws.proofs.TwoLogs.{WholeRun}
+use Rattle.modem_laws.proofs.Steps.{modem_log}
 use Rattle.modem_text.specs.Events.{ModemLog}
 use Rattle.modem_text.specs.Sessions.{ModemCall, ModemPhase, ModemSession}
 use Rattle.modem_steps.specs.Derived.{calls_over, call_in_phase}
@@ -72,32 +74,20 @@ call_in p session k c step call is =
     record { from = lt_case step (steps_before p session k c) both.0; to = to; all = omega (arith, to, few) }
 
 -- a step is of one phase
-pub one_phase : (p : ℕ) (session : ModemSession) (j k c step : ℕ)
+pub call_phase : (p : ℕ) (session : ModemSession) (j k c step : ℕ)
     → IsCallIn p session j c step
     → IsCallIn p session k c step
     → j ≡ k
-one_phase p session j k c step h g =
-    let h_from = h.from in
-    let h_to = h.to in
-    let g_from = g.from in
-    let g_to = g.to in
-    elim (cases_lt j k) [
-      | inl lt ↦
-          (let up = steps_rise p session (j + 1) k c (omega (arith, lt)) in absurd (omega (arith, up, h_to, g_from)))
-      | inr le ↦ elim (cases_lt k j) [
-        | inl lt ↦
-            (let up = steps_rise p session (k + 1) j c (omega (arith, lt)) in absurd (omega (arith, up, g_to, h_from)))
-        | inr ge ↦ omega (arith, le, ge)
-      ]
-    ]
+call_phase p session j k c step h g =
+    one_phase (λ i. steps_before p session i c) j k step (λ a b le. steps_rise p session a b c le) h.from h.to g.from
+    g.to
 
 -- ---- a whole run
 
 pub record Whole (p : ℕ) (session : ModemSession) (played : PlainSession) (journal : List PlainEntry) (last : Terminal)
     (end : ModemState) (log : ModemLog) : Type 0 where
-  pub journey : Journey p played (opening (sum (counts_on p played)) (flip_on p played)) last journal
+  pub run : WholeRun (modem_log p session) p played journal last end
   pub bounds : (k c : ℕ) → first_step p played k c + steps_in p played k c ≤ answers_in c journal
   pub answered : (c : ℕ) → next_of end c ≡ all_steps p session c
   pub turns : AreEntriesInTurn played (port_in session played p journal) log (first_place p played) 0 journal
   pub ends : last.phase ≡ length played.phases
-  pub idle : end.due ≡ []

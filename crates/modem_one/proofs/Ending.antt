@@ -50,8 +50,8 @@ use Rattle.modem_one.proofs.Taking.{plays_it, phase_is, roles_at, can_call, can_
 use Rattle.modem_one.proofs.Taking.{going_begun, rises_one}
 use Rattle.modem_one.proofs.Turning.{last_goes_on, noted_goes_on, turn_each}
 use Rattle.modem_one.proofs.Whose.{waits_kept}
-use Rattle.modem_one.proofs.Between.{items_length, items_behind, in_last_step}
-use Rattle.modem_one.proofs.Between.{apart_at, asked_at, items_at, next_of, by_answer, less_by_answer}
+use Rattle.modem_one.proofs.LeftCalls.{items_length, items_behind, in_last_step}
+use Rattle.modem_one.proofs.LeftCalls.{apart_at, asked_at, items_at, next_of, by_answer, less_by_answer}
 
 test_cases : (b : Bool) → (b ≡ true) ⊎ (b ≡ false)
 test_cases true = inl refl

@@ -15,5 +15,5 @@ pub mod Asking
 pub mod Taking
 pub mod WithinCalls
 pub mod NextInPhase
-pub mod Between
+pub mod LeftCalls
 pub mod Ending

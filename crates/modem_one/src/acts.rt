@@ -28,7 +28,7 @@ pub struct Taken {
 }
 
 /// The next piece of a flush run.
-pub fn take_flush(
+pub(crate) fn take_flush(
     port: &mut Port,
     desk: &Desk,
     roles: &[Role],
@@ -48,7 +48,7 @@ pub fn take_flush(
 }
 
 /// A tick, or the end of the clock.
-pub fn take_pass(
+pub(crate) fn take_pass(
     port: &mut Port,
     desk: &Desk,
     roles: &[Role],
@@ -133,7 +133,7 @@ fn take_own(
 }
 
 /// A caller's next call, where it can go on.
-pub fn take_call(
+pub(crate) fn take_call(
     port: &mut Port,
     desk: &mut Desk,
     roles: &[Role],
@@ -156,7 +156,7 @@ pub fn take_call(
 }
 
 /// An item of the modem block. Where the carrier is lost by it, the port is hung up.
-pub fn take_item(
+pub(crate) fn take_item(
     port: &mut Port,
     desk: &mut Desk,
     roles: &[Role],

@@ -15,7 +15,7 @@ use tty_base::Errno;
 use tty_calls::{Answer, Call};
 
 /// Makes a call of modem lines, which is refused without a live handle.
-pub fn control(modem: &mut Modem, port: &Port, call: OwnCall) -> Answer
+pub(crate) fn control(modem: &mut Modem, port: &Port, call: OwnCall) -> Answer
     ensures answer { answer_of result
         ≡ through (handle_at port.now.terminal (modem_handle call)) (modem_gives modem.old call) }
     ensures lines { modem.new ≡ lines_after_own modem.old port.now.terminal (Some (further call)) }
@@ -65,7 +65,7 @@ fn make(modem: &mut Modem, call: OwnCall) -> Answer
 }
 
 /// Whether a handle of the port is live.
-pub fn has_live(port: &Port) -> bool
+pub(crate) fn has_live(port: &Port) -> bool
     ensures { result ≡ has_live port.now.terminal }
 {
     least_live(port).is_some()
@@ -96,7 +96,7 @@ fn is_hangup(call: &Call) -> bool
 }
 
 /// The port has answered a call: by the first open DTR and RTS go up, and by a last close or a hangup they go down.
-pub fn settle(modem: &mut Modem, port: &Port, call: &Call, answer: &Answer, was_live: bool)
+pub(crate) fn settle(modem: &mut Modem, port: &Port, call: &Call, answer: &Answer, was_live: bool)
     ensures { modem.new
         ≡ (if is_done (answer_of answer.now)
         then lines_settled modem.old was_live (has_live port.now.terminal) (call_of call.now)

@@ -102,7 +102,7 @@ impl Desk {
     }
 
     /// Whether a call is an open that waits for the carrier.
-    pub fn holds(&self, port: &Port, call: &Call) -> bool
+    pub(crate) fn holds(&self, port: &Port, call: &Call) -> bool
         ensures { result ≡ waits_for_carrier self.now.lines port.now.terminal (Some (plain (call_of call.now))) }
     {
         match call {
@@ -135,7 +135,7 @@ impl Desk {
     }
 
     /// A caller's call of modem lines is made and answered.
-    pub fn control(&mut self, port: &Port, caller: u16, call: OwnCall) -> Result<(), Denied>
+    pub(crate) fn control(&mut self, port: &Port, caller: u16, call: OwnCall) -> Result<(), Denied>
         requires known { caller < length self.old.next }
         requires few { step_of self.old caller < 2 ^ 32 - 1 }
         ensures ok { OnOk result (self.new ≡ controlled self.old port.now caller call) }
@@ -146,7 +146,7 @@ impl Desk {
     }
 
     /// A caller is told that its open waits in vain.
-    pub fn tell(&mut self, port: &Port, caller: u16) -> Result<(), Denied>
+    pub(crate) fn tell(&mut self, port: &Port, caller: u16) -> Result<(), Denied>
         requires known { caller < length self.old.next }
         requires few { step_of self.old caller < 2 ^ 32 - 1 }
         ensures ok { OnOk result (self.new ≡ told_idle self.old (length port.now.journal) caller) }
@@ -156,7 +156,7 @@ impl Desk {
     }
 
     /// The port has answered a caller's call, before which a handle was live or none.
-    pub fn pass(
+    pub(crate) fn pass(
         &mut self,
         port: &Port,
         caller: u16,
@@ -185,7 +185,7 @@ impl Desk {
     }
 
     /// An item of the modem block is done. True says that the carrier is lost, and the port is to be hung up.
-    pub fn set_pin(&mut self, port: &Port, pin: Pin, up: bool) -> Result<bool, Denied>
+    pub(crate) fn set_pin(&mut self, port: &Port, pin: Pin, up: bool) -> Result<bool, Denied>
         requires few { self.old.items < 2 ^ 32 - 1 }
         ensures ok { OnOk result (self.new ≡ pinned self.old (length port.now.journal) pin up) }
         ensures lost { IfOk result (λ lost. lost ≡ loses_carrier self.old.lines pin up) }
@@ -198,7 +198,7 @@ impl Desk {
     }
 
     /// The port was hung up, as the carrier was lost.
-    pub fn hang_up(&mut self, port: &Port, h: u8) -> Result<(), Denied>
+    pub(crate) fn hang_up(&mut self, port: &Port, h: u8) -> Result<(), Denied>
         ensures ok { OnOk result (self.new ≡ hung_up_through self.old (length port.now.journal) h) }
         ensures err { IfErr result (λ d. d ≡ denied.NoMemory) }
     {

@@ -31,14 +31,14 @@ impl<'a> Items<'a> {
     }
 
     /// The next item.
-    pub fn next(&self) -> Option<PinItem>
+    pub(crate) fn next(&self) -> Option<PinItem>
         ensures { option_map step_of result ≡ slice_get self.now 0 }
     {
         self.items.get(self.done).copied()
     }
 
     /// The next item was done.
-    pub fn pass(&mut self)
+    pub(crate) fn pass(&mut self)
         ensures { self.new ≡ drop 1 self.old }
     {
         if self.done < self.items.len() {

@@ -9,9 +9,7 @@ mod desks;
 mod items;
 mod turns;
 
-pub use acts::{Taken, take_call, take_flush, take_item, take_pass};
 pub use after_line::play_after_line;
-pub use controls::{control, has_live, settle};
 pub use desks::Desk;
 pub use items::Items;
-pub use turns::{Asked, Next, next_of};
+pub use turns::Next;

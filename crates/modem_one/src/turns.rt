@@ -185,7 +185,7 @@ fn next_by_rank(
 }
 
 /// Whose turn it is.
-pub fn next_of(
+pub(crate) fn next_of(
     port: &Port,
     desk: &Desk,
     roles: &[Role],

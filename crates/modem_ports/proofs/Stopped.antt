@@ -36,7 +36,7 @@ use Rattle.modem_one.specs.Playing.{passings_with, next_passing}
 use Rattle.modem_one.specs.AfterLine.{FillsTurns, StopsTurns}
 use Rattle.modem_ports.specs.declared.phases.ModemStation.{ModemStation}
 use Rattle.modem_ports.specs.Ports.{passed_by, IsModemsFull}
-use Rattle.modem_ports.specs.Between.{IsStillOpen, IsStoppedBy, Setting, BeginsPhase}
+use Rattle.modem_ports.specs.Between.{IsStoppedBy, Setting, BeginsPhase}
 use Rattle.modem_ports.proofs.Lines.{AreBeforeEnd, before_stop}
 use Rattle.modem_ports.proofs.Resting.{begun_stays}
 use Rattle.tty_terminal.specs.Standing.{standing_in, at_first}
@@ -84,13 +84,12 @@ pub in_its_turn : (s : Setting) (roles : List Role) (at : ModemStation) (run : �
     (line : LineState) (played : PlainSession) (part : List PlainEntry)
     → Begins s roles at run left items steps ticks
     → StopsItsLine Full steps at.station.port v at.station.putter putter at.station.line line run
-    → v.terminal.line_over ≡ false
     → IsLike s.first (scene_on s.first.port played)
     → Agrees (scene_on s.first.port played) at.station.port
     → v.journal ≡ at.station.port.journal ++ part
     → AreInTurn s.first.port played (place_in s.first played at.station.port) part
     × AreBeforeEnd (call_at s.first.port played) (place_in s.first played at.station.port) part
-in_its_turn s roles at run left items steps ticks v putter line played part h stops open_still like agrees added =
+in_its_turn s roles at run left items steps ticks v putter line played part h stops like agrees added =
     let p = s.first.port in
     let old = at.station.port in
     let z = scene_on p played in
@@ -104,7 +103,7 @@ in_its_turn s roles at run left items steps ticks v putter line played part h st
     here.leads in
     let before : AreBeforeEnd (call_at p played) (place_of z old.journal) here.part =
     before_stop (call_at p played) (counts_on p played) (place_of z old.journal) here.part v.terminal leads here.inside
-    open_still in (
+    here.line_over in (
       subst (λ (es : List PlainEntry). AreInTurn p played (place_of z old.journal) es) same here.in_turn,
       subst (λ (es : List PlainEntry). AreBeforeEnd (call_at p played) (place_of z old.journal) es) same before,
     )
@@ -114,10 +113,9 @@ pub line_full : (s : Setting) (roles : List Role) (at : ModemStation) (run : ℕ
     (line : LineState)
     → Begins s roles at run left items steps ticks
     → StopsItsLine Full steps at.station.port v at.station.putter putter at.station.line line run
-    → v.terminal.line_over ≡ false
     → IsPort v
     → IsModemsFull s.first s.session v putter line at.desk
-line_full s roles at run left items steps ticks v putter line h stops open_still port =
+line_full s roles at run left items steps ticks v putter line h stops port =
     let first = s.first in
     let p = first.port in
     let session = s.session in
@@ -131,7 +129,6 @@ line_full s roles at run left items steps ticks v putter line h stops open_still
     let begins = line_begins s roles at run left items steps ticks h in
     let stopped = stops.each begins in
     let own = in_its_turn s roles at run left items steps ticks v putter line has.session stopped.part h stops
-    open_still
     has.like has.agrees stopped.added in
     let idle : (c : ℕ) → (standing_in c v.journal at_first).begun ≡ false = λ c.
     begun_is v c port
@@ -177,7 +174,7 @@ line_full s roles at run left items steps ticks v putter line h stops open_still
           let z = scene_on p played in
           let agreed = before played like by in
           let turns = in_its_turn s roles at run left items steps ticks v putter line played stopped.part h stops
-          open_still like agreed stopped.added in
+          like agreed stopped.added in
           logged_in first session played old d [] v.journal stopped.part b.desk like agreed
           (b.each.each z like agreed).0.of_scene stopped.added
           (entries_in_line played (port_in session played p v.journal) (logged_on p d.log) (place_in first played old)
@@ -296,16 +293,15 @@ pub line_stops : (denied : Denied) (s : Setting) (roles : List Role) (at : Modem
     (v : PortValue) (putter : PutterState Flagged) (line : LineState)
     → Begins s roles at run left items steps ticks
     → StopsItsLine denied steps at.station.port v at.station.putter putter at.station.line line run
-    → IsStillOpen denied v
     → IsPort v
     → then_at.station.port ≡ v
     → then_at.station.putter ≡ putter
     → then_at.station.line ≡ line
     → then_at.desk ≡ at.desk
     → IsStoppedBy denied s.first s.session then_at
-line_stops NoMemory s roles at run left items steps ticks then_at v putter line h stops open_still port a b c e = tt
-line_stops Full s roles at run left items steps ticks then_at v putter line h stops open_still port a b c e =
-    let full = line_full s roles at run left items steps ticks v putter line h stops open_still port in
+line_stops NoMemory s roles at run left items steps ticks then_at v putter line h stops port a b c e = tt
+line_stops Full s roles at run left items steps ticks then_at v putter line h stops port a b c e =
+    let full = line_full s roles at run left items steps ticks v putter line h stops port in
     subst (λ (q : PortValue). IsModemsFull s.first s.session q then_at.station.putter then_at.station.line then_at.desk)
     (sym a)
     (subst (λ (q : PutterState Flagged). IsModemsFull s.first s.session v q then_at.station.line then_at.desk) (sym b)

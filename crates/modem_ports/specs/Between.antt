@@ -1,5 +1,5 @@
 -- A port with modem lines between two phases, and what a phase is played of.
-use Rattle.std.specs.Prelude.{◌≡◌, ◌<◌, ◌++◌, ◌∷◌, [], ℕ, false, IsTrue, List, All, length, map, slice_index_or, filter}
+use Rattle.std.specs.Prelude.{◌≡◌, ◌<◌, ◌++◌, ◌∷◌, [], ℕ, IsTrue, List, All, length, map, slice_index_or, filter}
 use Rattle.std.specs.Prelude.{◌==◌}
 use Rattle.tty_base.specs.Lines.{is_step}
 use Rattle.tty_base.specs.declared.lines.LineStep.{LineStep}
@@ -39,11 +39,6 @@ abbrev pub IsStoppedBy : Denied → Scene → ModemSession → ModemStation → 
 IsStoppedBy NoMemory first session at = Unit {0}
 IsStoppedBy Full first session at =
     IsModemsFull first session at.station.port at.station.putter at.station.line at.desk
-
--- a line that was denied for a full journal is not over
-abbrev pub IsStillOpen : Denied → PortValue → Type 0
-IsStillOpen NoMemory v = Unit {0}
-IsStillOpen Full v = v.terminal.line_over ≡ false
 
 -- ---- a phase
 

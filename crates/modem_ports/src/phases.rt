@@ -1,32 +1,27 @@
 //! The phases of a session with modem lines on a port.
 
-ghost use Rattle.std.specs.Prelude.{◌≡◌, ◌+◌, ◌<◌, [], All, IfOk, IfErr, IsTrue, length, map, slice_index_or};
+ghost use Rattle.std.specs.Prelude.{◌≡◌, ◌+◌, ◌<◌, [], IfOk, IfErr, length, map, slice_index_or};
 ghost use Rattle.tty_calls.specs.declared.answers.Denied.TheVariants as denied;
 ghost use Rattle.tty_calls.specs.Sessions.{session_of};
-ghost use Rattle.tty_base.specs.Lines.{is_step};
-ghost use Rattle.one_thread.specs.Acts.{BeginsLine, PlaysItsLine, StopsItsLine};
 ghost use Rattle.play_base.specs.Roles.{scene_of};
 ghost use Rattle.calls_left.specs.Remaining.{calls_of_port};
 ghost use Rattle.modem_text.specs.Sessions.{modem_session_of};
 ghost use Rattle.modem_text.specs.Within.{IsModemSessionWithin};
 ghost use Rattle.modem_derived.specs.Blocks.{items_of_port, nothing_passed, pins_of};
-ghost use Rattle.modem_ports.specs.Between.{BeginsPhase, IsBetween, IsStillOpen, IsStoppedBy, Setting, setting_of};
+ghost use Rattle.modem_ports.specs.Between.{BeginsPhase, IsBetween, IsStoppedBy, Setting, setting_of};
 
 use crate::blocks::{items_in, own_in};
 use calls_left::Remaining;
-use flip_buffer::FlipIn;
 use line_steps::LineSteps;
 use modem_one::{Desk, Items, play_after_line};
 use modem_text::{ModemPart, ModemSession, OwnCall, PinItem};
-use one_thread::{Stand, play_line};
+use one_thread::{Nobody, Stand, play_line};
 use passed_calls::PlacedCall;
 use passed_ports::{cast_in, take_steps};
 use play_base::{Role, Station, scripts_of, steps_of, ticks_of};
-use port_core::Port;
 use std::alloc::Global;
 use tty_base::NoMemory;
 use tty_calls::{Denied, Names, Script, Session};
-use uart_line::Line;
 
 /// A port that is played, the names of its callers, and its desk.
 #[derive(Drop)]
@@ -115,34 +110,6 @@ fn pins_in(alloc: Global, parts: &[ModemPart], k: usize, port: u8) -> Result<Vec
     }
 }
 
-/// The line of a phase. One that is denied has not ended.
-fn play_up_to_end(
-    port: &mut Port,
-    putter: &mut FlipIn,
-    line: &mut Line,
-    steps: &LineSteps,
-    run: u32,
-) -> Result<u32, Denied>
-    requires begins { BeginsLine steps.now.items port.old putter.old line.old run }
-    requires good { All (λ step. IsTrue (is_step step)) steps.now.items }
-    ensures ok { IfOk result
-        (λ next. PlaysItsLine steps.now.items port.old port.new putter.old putter.new line.old line.new run next) }
-    ensures err { IfErr result
-        (λ d. StopsItsLine d steps.now.items port.old port.new putter.old putter.new line.old line.new run) }
-    ensures open { IfErr result (λ d. IsStillOpen d port.new) }
-{
-    match play_line(port, putter, line, steps, run) {
-        Ok(next) => Ok(next),
-        Err(Denied::NoMemory) => Err(Denied::NoMemory),
-        Err(Denied::Full) => {
-            if port.line_is_over() {
-                return Err(Denied::NoMemory);
-            }
-            Err(Denied::Full)
-        }
-    }
-}
-
 /// The line of a phase, and what comes after it. Answers the number of the next flush run.
 fn play_parts(
     at: &mut ModemStation,
@@ -160,10 +127,11 @@ fn play_parts(
         (λ next. IsBetween setting.first setting.session (at.old.station.port.terminal.phase + 1) next at.new) }
     ensures err { IfErr result (λ d. IsStoppedBy d setting.first setting.session at.new) }
 {
-    let played = play_up_to_end(
+    let played = play_line(
         &mut at.station.port,
         &mut at.station.putter,
         &mut at.station.line,
+        &mut Nobody,
         steps,
         run,
     );

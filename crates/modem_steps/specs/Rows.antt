@@ -18,6 +18,7 @@ use Rattle.modem_text.specs.Events.{ModemEvent, pin_set, own, passed, carrier_lo
 use Rattle.modem_text.specs.Sessions.{ModemCall, PinStep, ModemPhase, ModemSession, carrier_name}
 use Rattle.modem_steps.specs.Derived.{derived}
 use Rattle.modem_steps.specs.Steps.{Port, ModemState, first_state, after_event}
+use Rattle.one_order.specs.Rows.{played_with}
 
 -- ---- sessions of one port, whose only caller is called a
 
@@ -46,9 +47,6 @@ plain_phase calls hangups = record {
       record { port = 0; name = 97 ∷ []; calls = calls } ∷ record { port = 0; name = carrier_name; calls = hangups }
       ∷ [];
 }
-
-abbrev pub played_with : List PlainPhase → PlainSession
-played_with phases = record { version = 1; ports = 1; flips = 4096 ∷ []; phases = phases }
 
 abbrev pub logged : ℕ → ModemEvent → Logged ModemEvent
 logged at event = record { port = 0; at = at; event = event }

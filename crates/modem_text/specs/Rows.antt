@@ -2,7 +2,6 @@
 use Rattle.std.specs.Prelude.{ℕ, true, false, List, [], ◌∷◌, ◌++◌, codes, Result, Ok, Err}
 use Rattle.session_text.specs.declared.faults.Reason.{Reason}
 use Rattle.session_text.specs.declared.faults.Reason.TheVariants.{Header, Word, Number, Order, Limit}
-use Rattle.session_text.specs.declared.faults.BadLine.{BadLine}
 use Rattle.tty_base.specs.declared.lines.LineStep.TheVariants.{Break}
 use Rattle.tty_calls.specs.declared.calls.Access.TheVariants.{Rw}
 use Rattle.tty_calls.specs.Plain.{opens, gets_modes}
@@ -14,6 +13,7 @@ use Rattle.modem_text.specs.declared.items.ModemItem.{ModemItem}
 use Rattle.modem_text.specs.declared.items.ModemItem.TheVariants as item
 use Rattle.passed_calls.specs.Scripts.{plain, further}
 use Rattle.modem_text.specs.Sessions.{ModemSession}
+use Rattle.session_text.specs.Rows.{RefusedRow, refused_at, two_ports_with}
 
 -- a verb with its arguments, and what comes of it on a session of two ports
 pub record LineRow : Type 0 where
@@ -43,18 +43,6 @@ line_rows =
     ∷ row Softcar (codes "0" ∷ codes "2" ∷ []) (Err Limit)
     ∷ row Msr (codes "0" ∷ []) (Ok (item.Call (call.Msr 0)))
     ∷ []
-
--- a text, its first wrong line, and why that line is wrong
-pub record RefusedRow : Type 0 where
-  pub text : List ℕ
-  pub line : BadLine
-
-abbrev pub refused_at : ℕ → Reason → List ℕ → RefusedRow
-refused_at line reason text = record { text = text; line = record { line = line; reason = reason } }
-
--- a text that begins well, with two ports; the next line is its third
-abbrev pub two_ports_with : List ℕ → List ℕ
-two_ports_with more = codes "tty-session 1\nports 2\n" ++ more
 
 -- .. and in its first phase; the next line is its fourth
 abbrev pub in_phase : List ℕ → List ℕ

@@ -9,6 +9,7 @@ use Rattle.echo_out.specs.Echo.{echo_of}
 use Rattle.echo_out.specs.declared.EchoEvent.TheVariants as event
 use Rattle.echo_out.specs.declared.EraseKind.{EraseKind}
 use Rattle.echo_out.specs.declared.EraseKind.TheVariants.{Erase, Word, Kill}
+use Rattle.n_tty.specs.declared.erasing.Erasing.{Erasing}
 use Rattle.n_tty.specs.States.{NTtyState, OnPort}
 use Rattle.n_tty.specs.Posting.{after_echo}
 
@@ -18,6 +19,10 @@ echo_of_gone modes kind start kept [] = []
 echo_of_gone modes kind start kept (byte ∷ gone) =
     echo_of_gone modes kind start (kept ++ byte ∷ []) gone
     ++ echo_of modes (event.Erased kind byte (width_of modes start kept byte))
+
+-- the echo of what is erased of a line
+abbrev pub echo_of_erasing : Settings → Erasing → List ℕ → List ℕ
+echo_of_erasing modes e line = echo_of_gone modes e.kind e.start (take e.from line) (drop e.from line)
 
 -- the echo of a WERASE
 abbrev pub echo_of_word_erase : Settings → NTtyState → List ℕ

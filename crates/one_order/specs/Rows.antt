@@ -7,7 +7,7 @@ use Rattle.tty_calls.specs.declared.calls.When.TheVariants.{Now}
 use Rattle.tty_calls.specs.declared.journals.Who.TheVariants.{Caller, Line, Clock, Session}
 use Rattle.tty_calls.specs.Plain.{PlainCall, opens, closes, reads, sets_modes, done, got, idle, answered, waited}
 use Rattle.tty_calls.specs.Plain.{ticked, line_ended, clock_ended, caller_ended, phase_ended, hung_up, PlainEntry}
-use Rattle.tty_calls.specs.Sessions.{PlainScript, PlainSession}
+use Rattle.tty_calls.specs.Sessions.{PlainScript, PlainPhase, PlainSession}
 use Rattle.tty_terminal.specs.Rows.{whole, normal, opening_part, flush_part, answers}
 
 -- a caller of port 0, by a letter
@@ -120,3 +120,7 @@ early_tick =
     ∷ whole (Caller 1) 1 0 waited
     ∷ whole Clock 0 0 clock_ended
     ∷ (vain_part 0 ++ (vain_part 1 ++ last_part))
+
+-- a session of one port with these phases
+abbrev pub played_with : List PlainPhase → PlainSession
+played_with phases = record { version = 1; ports = 1; flips = 4096 ∷ []; phases = phases }

@@ -395,7 +395,8 @@ parted_more s scripts roles v w stand place r call h a =
           (slice_get_within roles place r h.turns.is, subst (λ (n : ℕ). IsInParts w n) (sym at) open_part);
       own_parts = λ waits some. record { place = place; at_place = refl; is = at };
     } in
-    caller_more s scripts roles v w stand place r (Some place) e h.turns more refl (marks_at s v w e more) refl refl tt (
+    let marks = marks_at s v w e more in
+    caller_more s scripts roles v w stand place r (Some place) e h.turns more refl marks refl refl tt (
       is_caller_of s scripts roles v stand place r h.turns,
       (λ k. in_phase s scripts roles v stand place r h.turns below),
       (λ k. absurd (false≢true k)),

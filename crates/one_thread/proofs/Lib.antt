@@ -19,4 +19,5 @@ pub mod LineEnds
 pub mod LineLoop
 pub mod LineWindows
 pub mod LineFlushes
+pub mod GoingAlong
 pub mod StationLemmas

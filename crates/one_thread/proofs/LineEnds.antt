@@ -40,7 +40,8 @@ use Rattle.play_base.specs.Putting.{HasPut, SeesIn, SeesFrom}
 use Rattle.play_base.specs.Beginning.{IsAtPhaseIn}
 use Rattle.one_thread.specs.Lines.{PlaysLineIn, StopsInLineIn, StopsLineIn}
 use Rattle.one_thread.specs.LineInside.{LineStart, steps_before, steps_of, IsInLine, HasFlushedAll, IsBetweenSteps}
-use Rattle.one_thread.specs.LineInside.{DeniesCut, PlaysSteps, StopsSteps, StandsBefore}
+use Rattle.one_thread.specs.LineInside.{DeniesCut, LineAt, line_at, IsLineBetween, PlaysSteps, StopsSteps}
+use Rattle.one_thread.specs.LineInside.{StandsBefore}
 use Rattle.one_thread.proofs.LineLists.{no_cut_left}
 use Rattle.play_base.proofs.Refusals.{All_later, overruns_see_most}
 use Rattle.one_order.proofs.Places.{in_phases_more, place_more, turns_more}
@@ -137,7 +138,7 @@ module _ (s : Scene) (v : PortValue) (putter met : PutterState Flagged) (line : 
     begins = subst (λ (x : PortValue). IsBetweenSteps (start_of s v line) x met line [] run) (sym start_is) begins_line
 
     pub stands_at_start : line.report.arrived + arrival_count steps ≤ line.most
-        → StandsBefore (closed_script steps) at_start met line run
+        → StandsBefore (closed_script steps) (line_at at_start met line) run
     stands_at_start room = record {
       b = start_of s v line;
       done = [];
@@ -147,17 +148,17 @@ module _ (s : Scene) (v : PortValue) (putter met : PutterState Flagged) (line : 
       room = omega (arith, room, arrival_count-append steps (Unmask ∷ Idle 4 ∷ []));
     }
 
-    pub plays_all : (w : PortValue) (now : PutterState Flagged) (next : LineState) (later : ℕ)
-        → PlaysSteps (closed_script steps) at_start w met now line next run later
-        → IsBetweenSteps (start_of s v line) w now next (steps_of (start_of s v line)) later
-    plays_all w now next later p =
-        subst (λ (l : List LineStep). IsBetweenSteps (start_of s v line) w now next (closed_script l) later) is
+    pub plays_all : (new : LineAt) (later : ℕ)
+        → PlaysSteps (closed_script steps) (line_at at_start met line) new run later
+        → IsLineBetween (start_of s v line) new (steps_of (start_of s v line)) later
+    plays_all new later p =
+        subst (λ (l : List LineStep). IsLineBetween (start_of s v line) new (closed_script l) later) is
         (p.each (start_of s v line) [] [] script_is begins)
 
-    pub stops_all : (d : Denied) (w : PortValue) (now : PutterState Flagged) (next : LineState)
-        → StopsSteps d (closed_script steps) at_start w met now line next run
-        → StopsLineIn HasAnyOrder d s v.terminal.phase v w now next
-    stops_all d w now next h = h.each (start_of s v line) [] [] script_is begins
+    pub stops_all : (d : Denied) (new : LineAt)
+        → StopsSteps d (closed_script steps) (line_at at_start met line) new run
+        → StopsLineIn HasAnyOrder d s v.terminal.phase v new.port new.putter new.line
+    stops_all d new h = h.each (start_of s v line) [] [] script_is begins
 
 -- ---- a full journal
 

@@ -42,7 +42,7 @@ alike old new h = record {
   capacity = h.capacity;
 }
 
-same : (old new : PortValue) → new ≡ old → FlushesOnce old new
+pub same : (old new : PortValue) → new ≡ old → FlushesOnce old new
 same old new h =
     subst (λ (v : PortValue). FlushesOnce old v) (sym h)
     (alike old old (record { terminal = refl; journal = refl; kept = refl; counts = refl; capacity = refl }))

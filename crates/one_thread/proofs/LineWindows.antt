@@ -4,6 +4,7 @@ use Rattle.std.proofs.Common.{length, take, drop, get_or, reverse, refl, sym, �
 use Rattle.std.proofs.Common.{arith, append_assoc, append-nil, length-append, ◌⊎◌, inl, inr}
 use Rattle.std.specs.List.Sorted.{IsNonDecreasing}
 use Rattle.std.specs.List.{All}
+use Rattle.std.specs.Prelude.{Result, Ok, Err, IfOk, IfErr}
 use Rattle.std.proofs.lemmas.Bool.{cases_lt}
 use Rattle.std.proofs.lemmas.List.{length-map, take_all, take_more, take-append-drop}
 use Rattle.tty_base.specs.Sizes.{MOST_SENT, PIECE}
@@ -33,7 +34,7 @@ use Rattle.play_base.specs.Scenes.{HasAnyOrder}
 use Rattle.play_base.specs.Putting.{HasPut, SeesFrom}
 use Rattle.one_thread.specs.Lines.{StopsLineIn}
 use Rattle.one_thread.specs.LineInside.{LineStart, steps_before, steps_of, IsInLine, IsBetweenSteps, FlushesSince}
-use Rattle.one_thread.specs.LineInside.{DeniesCut, PlaysSteps, StopsSteps, run_after}
+use Rattle.one_thread.specs.LineInside.{DeniesCut, line_at, PlaysSteps, StopsSteps, DoesSteps, run_after}
 use Rattle.one_thread.proofs.LineLists.{handed_list, handed_is, no_cut, cuts_same}
 use Rattle.one_thread.proofs.LineSteps.{StepsTo}
 use Rattle.one_thread.proofs.LineCuts.{step_rests, step_flushes}
@@ -281,7 +282,7 @@ module _ (v : PortValue) (putter now : PutterState Flagged) (line next : LineSta
     (st : (before : List LineStep) → HasDone line before → StepsTo putter now line next before step) where
   pub step_plays : (w : PortValue) (after : PutterState Flagged) (later : ℕ)
       → FlushesSince (length putter.sent) v w now after run later
-      → PlaysSteps (step ∷ []) v w putter after line next run later
+      → PlaysSteps (step ∷ []) (line_at v putter line) (line_at w after next) run later
   step_plays w after later f = record {
     each = λ b done left script i.
         step_flushed b v putter now line next done left step run script i
@@ -290,18 +291,28 @@ module _ (v : PortValue) (putter now : PutterState Flagged) (line next : LineSta
 
   pub step_stops : (d : Denied) (w : PortValue) (met : PutterState Flagged)
       → DeniesCut d v w now met
-      → StopsSteps d (step ∷ []) v w putter met line next run
+      → StopsSteps d (step ∷ []) (line_at v putter line) (line_at w met next) run
   step_stops d w met h = record {
     each = λ b done left script i.
         stops_at_cut d b v w putter now met line next done left step script i.in_line
         (st (steps_before b ++ done) i.in_line.has_put.done) h;
   }
 
+  pub step_does : (before : ℕ)
+      → before ≡ length putter.sent
+      → (w : PortValue) (after : PutterState Flagged) (result : Result ℕ Denied)
+      → IfOk result (λ later. FlushesSince before v w now after run later)
+      → IfErr result (λ d. DeniesCut d v w now after)
+      → DoesSteps (step ∷ []) (line_at v putter line) (line_at w after next) run result
+  step_does before is w after (Ok later) f h =
+      step_plays w after later (subst (λ (n : ℕ). FlushesSince n v w now after run later) is f)
+  step_does before is w after (Err d) f h = step_stops d w after h
+
 module _ (v : PortValue) (putter now : PutterState Flagged) (line next : LineState) (steps : List LineStep) (run n : ℕ)
     (to : (before : List LineStep) → HasDone line before → WindowTo putter now line next before steps n) where
   pub window_plays : (w : PortValue) (after : PutterState Flagged) (later : ℕ)
       → FlushesSince (length putter.sent) v w now after run later
-      → PlaysSteps (take n steps) v w putter after line next run later
+      → PlaysSteps (take n steps) (line_at v putter line) (line_at w after next) run later
   window_plays w after later f = record {
     each = λ b done left script i.
         window_flushed b v putter now line next done steps left run n script i
@@ -310,10 +321,11 @@ module _ (v : PortValue) (putter now : PutterState Flagged) (line next : LineSta
 
   pub window_stops : (d : Denied) (w : PortValue) (met : PutterState Flagged)
       → DeniesCut d v w now met
-      → StopsSteps d steps v w putter met line next run
+      → StopsSteps d steps (line_at v putter line) (line_at w met next) run
   window_stops d w met h =
-      subst (λ (l : List LineStep). StopsSteps d l v w putter met line next run) (take-append-drop n steps)
-      (stops_early d (take n steps) (drop n steps) v w putter met line next run (record {
+      subst (λ (l : List LineStep). StopsSteps d l (line_at v putter line) (line_at w met next) run)
+      (take-append-drop n steps)
+      (stops_early d (take n steps) (drop n steps) (line_at v putter line) (line_at w met next) run (record {
         each = λ b done left script i.
             window_stopped b v putter now line next done steps left run n script i
             (to (steps_before b ++ done) i.in_line.has_put.done) d w met h;
@@ -403,16 +415,18 @@ module _ (v : PortValue) (putter : PutterState Flagged) (line next : LineState) 
       → v.terminal.taken ≡ length v.flip.taken
       → length bytes ≤ PIECE
       → FlushesGiven v w putter after run chars flushed
-      → PlaysSteps steps v w putter after line next run (run_after run flushed)
+      → PlaysSteps steps (line_at v putter line) (line_at w after next) run (run_after run flushed)
   window_given w after flushed port taken few g =
-      subst (λ (l : List LineStep). PlaysSteps l v w putter after line next run (run_after run flushed)) all_steps
+      subst
+      (λ (l : List LineStep). PlaysSteps l (line_at v putter line) (line_at w after next) run (run_after run flushed))
+      all_steps
       (window_plays v putter (with_put putter chars) line next steps run (length bytes) given_to w after
       (run_after run flushed)
       (flushes_given w after flushed port taken few g))
 
   pub window_denied : (d : Denied) (w : PortValue) (met : PutterState Flagged)
       → DeniesGiven d v w putter met chars
-      → StopsSteps d steps v w putter met line next run
+      → StopsSteps d steps (line_at v putter line) (line_at w met next) run
   window_denied d w met g =
       window_stops v putter (with_put putter chars) line next steps run (length bytes) given_to d w met
       (record { hears = g.hears; denies = g.denies })

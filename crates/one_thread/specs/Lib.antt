@@ -1,4 +1,5 @@
 pub mod Acts
+pub mod Following
 pub mod LineInside
 pub mod Lines
 pub mod Stages

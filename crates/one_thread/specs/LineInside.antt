@@ -1,6 +1,6 @@
 -- What holds between two steps of the line of a phase.
 use Rattle.std.specs.Prelude.{◌≡◌, ◌⊎◌, ◌≤◌, ◌<◌, ◌+◌, ◌-◌, min, ℕ, List, []}
-use Rattle.std.specs.Prelude.{◌++◌, true, false, All, length, reverse}
+use Rattle.std.specs.Prelude.{◌++◌, true, false, All, Result, MatchResult, length, reverse, take}
 use Rattle.tty_base.specs.Sizes.{LEAST_FLIP, PIECE}
 use mathlib.Core.List.{IsPrefix}
 use Rattle.tty_base.specs.declared.characters.Flagged.{Flagged}
@@ -25,6 +25,7 @@ use Rattle.play_base.specs.Roles.{Scene}
 use Rattle.play_base.specs.Scenes.{HasAnyOrder, IsOfSceneIn, AreAtFirst, BeginsRun, place_of}
 use Rattle.play_base.specs.Putting.{HasPut, KnowsTaken, SeesFrom}
 use Rattle.one_thread.specs.Lines.{StopsLineIn}
+use Rattle.one_thread.specs.declared.line.Passed.{Passed}
 
 -- where the line of a phase began: the scene and the phase, and the port and the line as they were then
 pub record LineStart : Type 0 where
@@ -126,24 +127,45 @@ pub record FlushesSince (before : ℕ) (old new : PortValue) (putter now : Putte
 
 -- ---- some steps of a line
 
+-- port, putter and line between two steps
+pub record LineAt : Type 0 where
+  pub port : PortValue
+  pub putter : PutterState Flagged
+  pub line : LineState
+
+abbrev pub line_at : PortValue → PutterState Flagged → LineState → LineAt
+line_at port putter line = record { port = port; putter = putter; line = line }
+
+abbrev pub IsLineBetween : LineStart → LineAt → List LineStep → (run : ℕ) → Type 0
+IsLineBetween b at done run = IsBetweenSteps b at.port at.putter at.line done run
+
 -- Wherever a line is between two steps and these are its next ones, it does them, and is between two steps again.
-pub record PlaysSteps (steps : List LineStep) (v w : PortValue) (putter now : PutterState Flagged)
-    (line next : LineState) (run later : ℕ) : Type 0 where
+pub record PlaysSteps (steps : List LineStep) (old new : LineAt) (run next : ℕ) : Type 0 where
   pub each : (b : LineStart) (done left : List LineStep) → steps_of b ≡ done ++ (steps ++ left)
-      → IsBetweenSteps b v putter line done run → IsBetweenSteps b w now next (done ++ steps) later
+      → IsLineBetween b old done run → IsLineBetween b new (done ++ steps) next
 
 -- Wherever a line is between two steps and these are its next ones, it stops in them.
-pub record StopsSteps (d : Denied) (steps : List LineStep) (v w : PortValue) (putter now : PutterState Flagged)
-    (line next : LineState) (run : ℕ) : Type 0 where
+pub record StopsSteps (d : Denied) (steps : List LineStep) (old new : LineAt) (run : ℕ) : Type 0 where
   pub each : (b : LineStart) (done left : List LineStep) → steps_of b ≡ done ++ (steps ++ left)
-      → IsBetweenSteps b v putter line done run → StopsLineIn HasAnyOrder d b.scene b.phase b.port w now next
+      → IsLineBetween b old done run
+      → StopsLineIn HasAnyOrder d b.scene b.phase b.port new.port new.putter new.line
+
+-- it does them, or stops in them
+abbrev pub DoesSteps : List LineStep → (old new : LineAt) → (run : ℕ) → Result ℕ Denied → Type 0
+DoesSteps steps old new run result =
+    MatchResult result (λ next. PlaysSteps steps old new run next) (λ d. StopsSteps d steps old new run)
+
+-- it does the first of them, or stops in them
+abbrev pub DoesFirstSteps : List LineStep → (old new : LineAt) → (run : ℕ) → Result Passed Denied → Type 0
+DoesFirstSteps steps old new run result =
+    MatchResult result (λ passed. PlaysSteps (take passed.steps steps) old new run passed.run)
+    (λ d. StopsSteps d steps old new run)
 
 -- Some line is between two steps and these are its next ones, with room for what arrives in them.
-pub record StandsBefore (steps : List LineStep) (v : PortValue) (putter : PutterState Flagged) (line : LineState)
-    (run : ℕ) : Type 0 where
+pub record StandsBefore (steps : List LineStep) (at : LineAt) (run : ℕ) : Type 0 where
   pub b : LineStart
   pub done : List LineStep
   pub left : List LineStep
   pub script : steps_of b ≡ done ++ (steps ++ left)
-  pub between : IsBetweenSteps b v putter line done run
-  pub room : line.report.arrived + arrival_count steps ≤ line.most
+  pub between : IsLineBetween b at done run
+  pub room : at.line.report.arrived + arrival_count steps ≤ at.line.most

@@ -1,10 +1,10 @@
 //! The line of a phase: its parts, each window of characters, and each other step, followed by a flush of what
-//! it has put.
+//! it has put. A follower is called behind each flush.
 
-ghost use Rattle.std.specs.Prelude.{◌≡◌, ◌≤◌, ◌<◌, ◌+◌, ◌-◌, ◌^◌, [], ◌∷◌, IsTrue};
+ghost use Rattle.std.specs.Prelude.{◌≡◌, ◌≤◌, ◌<◌, ◌^◌, ◌-◌, [], ◌∷◌, IsTrue};
 ghost use Rattle.std.specs.Prelude.{IfSome, IfOk, IfErr, All, length, map, take};
-ghost use Rattle.tty_base.specs.Sizes.{LEAST_FLIP, MOST_SENT, PIECE};
-ghost use Rattle.tty_base.specs.Lines.{arrival, is_step};
+ghost use Rattle.tty_base.specs.Sizes.{PIECE};
+ghost use Rattle.tty_base.specs.Lines.{is_step};
 ghost use Rattle.line_steps.specs.Steps.{rx_step, steps_of as steps_of_part};
 ghost use Rattle.word_ring.specs.Ends.{NothingWaits};
 ghost use Rattle.uart_line.specs.GoodSteps.{good_steps};
@@ -12,9 +12,11 @@ ghost use Rattle.uart_line.specs.WholeWindow.{TakesWindow};
 ghost use Rattle.uart_line.specs.Received.{closed_script};
 ghost use Rattle.play_base.specs.Scenes.{BeginsRun};
 ghost use Rattle.one_thread.specs.Acts.{BeginsLine, PlaysItsLine, StopsItsLine, FlushesOnce};
-ghost use Rattle.one_thread.specs.LineInside.{StandsBefore, PlaysSteps, StopsSteps};
+ghost use Rattle.one_thread.specs.Following.{Follows, FollowsLine};
+ghost use Rattle.one_thread.specs.LineInside.{line_at, StandsBefore, DoesSteps, DoesFirstSteps};
 ghost use Rattle.one_thread.specs.LineInside.{FlushesSince, DeniesCut, FlushesCut, run_after};
 
+use crate::followers::Follower;
 use flip_buffer::FlipIn;
 use line_steps::{LinePart, LineSteps};
 use port_core::{Flushed, Port};
@@ -26,11 +28,12 @@ use uart_regs::TIMEOUT;
 /// The most characters of one flush. A cut gives fewer.
 const PIECE: u64 = tty_base::sizes::PIECE as u64;
 
-/// Plays the line of a phase: its steps, the two that close it, and its end.
-pub fn play_line(
+/// Plays the line of a phase: its steps, the two that close it, and its end. Answers the number of the next flush run.
+pub fn play_line<F: Follower>(
     port: &mut Port,
     putter: &mut FlipIn,
     line: &mut Line,
+    follower: &mut F,
     steps: &LineSteps,
     run: u32,
 ) -> Result<u32, Denied>
@@ -40,97 +43,102 @@ pub fn play_line(
         (λ next. PlaysItsLine steps.now.items port.old port.new putter.old putter.new line.old line.new run next) }
     ensures err { IfErr result
         (λ d. StopsItsLine d steps.now.items port.old port.new putter.old putter.new line.old line.new run) }
+    ensures follows { FollowsLine F.follows port.old port.new putter.old follower.old follower.new result }
 {
     port.known();
     port.meet(putter);
-    let next = play_steps(port, putter, line, steps, run)?;
+    let next = play_steps(port, putter, line, follower, steps, run)?;
     port.known();
     port.line_end(putter)?;
+    port.known();
     Ok(next)
 }
 
 /// The steps of the line, and the two that close it.
-fn play_steps(
+fn play_steps<F: Follower>(
     port: &mut Port,
     putter: &mut FlipIn,
     line: &mut Line,
+    follower: &mut F,
     steps: &LineSteps,
     run: u32,
 ) -> Result<u32, Denied>
     requires good { All (λ step. IsTrue (is_step step)) steps.now.items }
-    requires stands { StandsBefore (closed_script steps.now.items) port.old putter.old line.old run }
-    ensures ok { IfOk result (λ next.
-        PlaysSteps (closed_script steps.now.items) port.old port.new putter.old putter.new line.old line.new run next) }
-    ensures err { IfErr result (λ d.
-        StopsSteps d (closed_script steps.now.items) port.old port.new putter.old putter.new line.old line.new run) }
+    requires stands { StandsBefore (closed_script steps.now.items) (line_at port.old putter.old line.old) run }
+    ensures does { DoesSteps (closed_script steps.now.items) (line_at port.old putter.old line.old)
+        (line_at port.new putter.new line.new) run result }
+    ensures follows { Follows F.follows port.old port.new follower.old follower.new result }
 {
     let mut next = run;
     for part in steps.parts() {
-        next = play_part(port, putter, line, part, next)?;
+        next = play_part(port, putter, line, follower, part, next)?;
     }
-    close(port, putter, line, next)
+    close(port, putter, line, follower, next)
 }
 
 /// The two steps that close a line.
 #[inline(never)]
-fn close(port: &mut Port, putter: &mut FlipIn, line: &mut Line, run: u32) -> Result<u32, Denied>
-    requires stands { StandsBefore (closed_script []) port.old putter.old line.old run }
-    ensures ok { IfOk result
-        (λ next. PlaysSteps (closed_script []) port.old port.new putter.old putter.new line.old line.new run next) }
-    ensures err { IfErr result
-        (λ d. StopsSteps d (closed_script []) port.old port.new putter.old putter.new line.old line.new run) }
-{
-    let next = play_step(port, putter, line, LineStep::Unmask, run)?;
-    play_step(port, putter, line, LineStep::Idle(TIMEOUT as u16), next)
-}
-
-/// A part of the line. Mostly good characters arrive.
-fn play_part(
+fn close<F: Follower>(
     port: &mut Port,
     putter: &mut FlipIn,
     line: &mut Line,
+    follower: &mut F,
+    run: u32,
+) -> Result<u32, Denied>
+    requires stands { StandsBefore (closed_script []) (line_at port.old putter.old line.old) run }
+    ensures does { DoesSteps (closed_script []) (line_at port.old putter.old line.old)
+        (line_at port.new putter.new line.new) run result }
+    ensures follows { Follows F.follows port.old port.new follower.old follower.new result }
+{
+    let next = play_step(port, putter, line, follower, LineStep::Unmask, run)?;
+    let idle = LineStep::Idle(TIMEOUT as u16);
+    play_step(port, putter, line, follower, idle, next)
+}
+
+/// A part of the line. Mostly good characters arrive.
+fn play_part<F: Follower>(
+    port: &mut Port,
+    putter: &mut FlipIn,
+    line: &mut Line,
+    follower: &mut F,
     part: &LinePart,
     run: u32,
 ) -> Result<u32, Denied>
     requires good { All (λ step. IsTrue (is_step step)) (steps_of_part part.now) }
-    requires stands { StandsBefore (steps_of_part part.now) port.old putter.old line.old run }
-    ensures ok { IfOk result (λ next.
-        PlaysSteps (steps_of_part part.now) port.old port.new putter.old putter.new line.old line.new run next) }
-    ensures err { IfErr result
-        (λ d. StopsSteps d (steps_of_part part.now) port.old port.new putter.old putter.new line.old line.new run) }
+    requires stands { StandsBefore (steps_of_part part.now) (line_at port.old putter.old line.old) run }
+    ensures does { DoesSteps (steps_of_part part.now) (line_at port.old putter.old line.old)
+        (line_at port.new putter.new line.new) run result }
+    ensures follows { Follows F.follows port.old port.new follower.old follower.new result }
 {
     match part {
-        LinePart::Run(Flag::Normal, bytes) => play_run(port, putter, line, bytes.as_slice(), run),
-        LinePart::Run(flag, bytes) => play_flagged(
-            port,
-            putter,
-            line,
-            *flag,
-            bytes.as_slice(),
-            run,
-        ),
-        LinePart::One(step) => play_step(port, putter, line, *step, run),
+        LinePart::Run(Flag::Normal, bytes) => {
+            play_run(port, putter, line, follower, bytes.as_slice(), run)
+        }
+        LinePart::Run(flag, bytes) => {
+            play_flagged(port, putter, line, follower, *flag, bytes.as_slice(), run)
+        }
+        LinePart::One(step) => play_step(port, putter, line, follower, *step, run),
     }
 }
 
 /// Good characters, a window at a time.
-fn play_run(
+fn play_run<F: Follower>(
     port: &mut Port,
     putter: &mut FlipIn,
     line: &mut Line,
+    follower: &mut F,
     bytes: &[u8],
     run: u32,
 ) -> Result<u32, Denied>
-    requires stands { StandsBefore (good_steps bytes.now) port.old putter.old line.old run }
-    ensures ok { IfOk result
-        (λ next. PlaysSteps (good_steps bytes.now) port.old port.new putter.old putter.new line.old line.new run next) }
-    ensures err { IfErr result
-        (λ d. StopsSteps d (good_steps bytes.now) port.old port.new putter.old putter.new line.old line.new run) }
+    requires stands { StandsBefore (good_steps bytes.now) (line_at port.old putter.old line.old) run }
+    ensures does { DoesSteps (good_steps bytes.now) (line_at port.old putter.old line.old)
+        (line_at port.new putter.new line.new) run result }
+    ensures follows { Follows F.follows port.old port.new follower.old follower.new result }
 {
     let mut next = run;
     let mut at = 0;
     while at < bytes.len() {
-        let passed = play_window(port, putter, line, rest_of(bytes, at), next)?;
+        let passed = play_window(port, putter, line, follower, rest_of(bytes, at), next)?;
         at += passed.steps;
         next = passed.run;
     }
@@ -139,42 +147,92 @@ fn play_run(
 
 /// Characters with a flag, one after the other.
 #[inline(never)]
-fn play_flagged(
+fn play_flagged<F: Follower>(
     port: &mut Port,
     putter: &mut FlipIn,
     line: &mut Line,
+    follower: &mut F,
     flag: Flag,
     bytes: &[u8],
     run: u32,
 ) -> Result<u32, Denied>
     requires good { All (λ step. IsTrue (is_step step)) (map (rx_step flag) bytes.now) }
-    requires stands { StandsBefore (map (rx_step flag) bytes.now) port.old putter.old line.old run }
-    ensures ok { IfOk result (λ next.
-        PlaysSteps (map (rx_step flag) bytes.now) port.old port.new putter.old putter.new line.old line.new run next) }
-    ensures err { IfErr result (λ d.
-        StopsSteps d (map (rx_step flag) bytes.now) port.old port.new putter.old putter.new line.old line.new run) }
+    requires stands { StandsBefore (map (rx_step flag) bytes.now) (line_at port.old putter.old line.old) run }
+    ensures does { DoesSteps (map (rx_step flag) bytes.now) (line_at port.old putter.old line.old)
+        (line_at port.new putter.new line.new) run result }
+    ensures follows { Follows F.follows port.old port.new follower.old follower.new result }
 {
     let mut next = run;
     for place in 0..bytes.len() {
         let byte = bytes[place];
         let step = LineStep::Rx(Flagged { byte, flag });
-        next = play_step(port, putter, line, step, next)?;
+        next = play_step(port, putter, line, follower, step, next)?;
     }
     Ok(next)
 }
 
 /// What the next steps of a line came to.
 #[derive(Clone, Copy)]
-pub struct Passed {
+struct Passed {
     /// How many steps that were.
-    pub steps: usize,
+    steps: usize,
     /// The number of the next flush run.
-    pub run: u32,
+    run: u32,
+}
+
+/// The first of these good characters, or a whole window of them, and what follows their flush.
+#[inline(always)]
+fn play_window<F: Follower>(
+    port: &mut Port,
+    putter: &mut FlipIn,
+    line: &mut Line,
+    follower: &mut F,
+    bytes: &[u8],
+    run: u32,
+) -> Result<Passed, Denied>
+    requires some { 0 < length bytes.now }
+    requires stands { StandsBefore (good_steps bytes.now) (line_at port.old putter.old line.old) run }
+    ensures some { IfOk result (λ passed. 0 < passed.steps) }
+    ensures within { IfOk result (λ passed. passed.steps ≤ length bytes.now) }
+    ensures does { DoesFirstSteps (good_steps bytes.now) (line_at port.old putter.old line.old)
+        (line_at port.new putter.new line.new) run result }
+    ensures follows { Follows F.follows port.old port.new follower.old follower.new result }
+{
+    port.known();
+    let passed = flush_window(port, putter, line, bytes, run);
+    port.known();
+    let passed = passed?;
+    follower.follow(port)?;
+    Ok(passed)
+}
+
+/// A step, and what follows its flush. Answers the number of the next flush run.
+#[inline(always)]
+fn play_step<F: Follower>(
+    port: &mut Port,
+    putter: &mut FlipIn,
+    line: &mut Line,
+    follower: &mut F,
+    step: LineStep,
+    run: u32,
+) -> Result<u32, Denied>
+    requires good { IsTrue (is_step step) }
+    requires stands { StandsBefore (step ∷ []) (line_at port.old putter.old line.old) run }
+    ensures does { DoesSteps (step ∷ []) (line_at port.old putter.old line.old)
+        (line_at port.new putter.new line.new) run result }
+    ensures follows { Follows F.follows port.old port.new follower.old follower.new result }
+{
+    port.known();
+    let next = flush_step(port, putter, line, step, run);
+    port.known();
+    let next = next?;
+    follower.follow(port)?;
+    Ok(next)
 }
 
 /// Plays the first of these good characters, or a whole window of them, and a flush of what was put.
 #[inline(always)]
-pub fn play_window(
+fn flush_window(
     port: &mut Port,
     putter: &mut FlipIn,
     line: &mut Line,
@@ -182,22 +240,16 @@ pub fn play_window(
     run: u32,
 ) -> Result<Passed, Denied>
     requires some { 0 < length bytes.now }
-    requires room { line.old.report.arrived + length bytes.now ≤ line.old.most }
-    requires put { line.old.most ≤ (MOST_SENT - length putter.old.sent) + line.old.handed }
-    requires ring { putter.old.ring ≡ port.old.flip.ring }
-    requires some_room { LEAST_FLIP ≤ port.old.flip.capacity }
-    requires run { BeginsRun run port.old }
+    requires stands { StandsBefore (good_steps bytes.now) (line_at port.old putter.old line.old) run }
     ensures some { IfOk result (λ passed. 0 < passed.steps) }
     ensures within { IfOk result (λ passed. passed.steps ≤ length bytes.now) }
-    ensures ok { IfOk result (λ passed. PlaysSteps (take passed.steps (good_steps bytes.now)) port.old port.new
-        putter.old putter.new line.old line.new run passed.run) }
+    ensures does { DoesFirstSteps (good_steps bytes.now) (line_at port.old putter.old line.old)
+        (line_at port.new putter.new line.new) run result }
     ensures flushes { FlushesOnce port.old port.new }
-    ensures err { IfErr result
-        (λ d. StopsSteps d (good_steps bytes.now) port.old port.new putter.old putter.new line.old line.new run) }
 {
     match window_to_give(port, putter, line, bytes) {
         Some(window) => give_window(port, putter, line, window, run),
-        None => play_first(port, putter, line, bytes, run),
+        None => flush_first(port, putter, line, bytes, run),
     }
 }
 
@@ -232,17 +284,11 @@ fn give_window(
 ) -> Result<Passed, Denied>
     requires open { TakesWindow line.old 8 }
     requires clear { NothingWaits putter.old port.old.flip }
-    requires room { line.old.report.arrived + 8 ≤ line.old.most }
-    requires put { line.old.most ≤ (MOST_SENT - length putter.old.sent) + line.old.handed }
-    requires ring { putter.old.ring ≡ port.old.flip.ring }
-    requires some_room { LEAST_FLIP ≤ port.old.flip.capacity }
-    requires run { BeginsRun run port.old }
+    requires stands { StandsBefore (good_steps window.now) (line_at port.old putter.old line.old) run }
     ensures steps { IfOk result (λ passed. passed.steps ≡ 8) }
-    ensures ok { IfOk result (λ passed.
-        PlaysSteps (good_steps window.now) port.old port.new putter.old putter.new line.old line.new run passed.run) }
+    ensures does { DoesFirstSteps (good_steps window.now) (line_at port.old putter.old line.old)
+        (line_at port.new putter.new line.new) run result }
     ensures flushes { FlushesOnce port.old port.new }
-    ensures err { IfErr result
-        (λ d. StopsSteps d (good_steps window.now) port.old port.new putter.old putter.new line.old line.new run) }
 {
     port.known();
     line.receive_window(window);
@@ -255,7 +301,7 @@ fn give_window(
 
 /// The first of these good characters arrives in a step of its own.
 #[inline(always)]
-fn play_first(
+fn flush_first(
     port: &mut Port,
     putter: &mut FlipIn,
     line: &mut Line,
@@ -263,20 +309,15 @@ fn play_first(
     run: u32,
 ) -> Result<Passed, Denied>
     requires some { 0 < length bytes.now }
-    requires room { line.old.report.arrived + length bytes.now ≤ line.old.most }
-    requires put { line.old.most ≤ (MOST_SENT - length putter.old.sent) + line.old.handed }
-    requires ring { putter.old.ring ≡ port.old.flip.ring }
-    requires run { BeginsRun run port.old }
+    requires stands { StandsBefore (good_steps bytes.now) (line_at port.old putter.old line.old) run }
     ensures some { IfOk result (λ passed. 0 < passed.steps) }
     ensures within { IfOk result (λ passed. passed.steps ≤ length bytes.now) }
-    ensures ok { IfOk result (λ passed. PlaysSteps (take passed.steps (good_steps bytes.now)) port.old port.new
-        putter.old putter.new line.old line.new run passed.run) }
+    ensures does { DoesFirstSteps (good_steps bytes.now) (line_at port.old putter.old line.old)
+        (line_at port.new putter.new line.new) run result }
     ensures flushes { FlushesOnce port.old port.new }
-    ensures err { IfErr result
-        (λ d. StopsSteps d (good_steps bytes.now) port.old port.new putter.old putter.new line.old line.new run) }
 {
     let step = LineStep::Rx(Flagged::good(bytes[0]));
-    let next = play_step(port, putter, line, step, run)?;
+    let next = flush_step(port, putter, line, step, run)?;
     Ok(Passed {
         steps: 1,
         run: next,
@@ -285,7 +326,7 @@ fn play_first(
 
 /// Plays a step of the line, and a flush of what it has put. Answers the number of the next flush run.
 #[inline(never)]
-pub fn play_step(
+fn flush_step(
     port: &mut Port,
     putter: &mut FlipIn,
     line: &mut Line,
@@ -293,15 +334,10 @@ pub fn play_step(
     run: u32,
 ) -> Result<u32, Denied>
     requires good { IsTrue (is_step step) }
-    requires room { line.old.report.arrived + length (arrival step) ≤ line.old.most }
-    requires put { line.old.most ≤ (MOST_SENT - length putter.old.sent) + line.old.handed }
-    requires ring { putter.old.ring ≡ port.old.flip.ring }
-    requires run { BeginsRun run port.old }
-    ensures ok { IfOk result
-        (λ next. PlaysSteps (step ∷ []) port.old port.new putter.old putter.new line.old line.new run next) }
+    requires stands { StandsBefore (step ∷ []) (line_at port.old putter.old line.old) run }
+    ensures does { DoesSteps (step ∷ []) (line_at port.old putter.old line.old)
+        (line_at port.new putter.new line.new) run result }
     ensures flushes { FlushesOnce port.old port.new }
-    ensures err { IfErr result
-        (λ d. StopsSteps d (step ∷ []) port.old port.new putter.old putter.new line.old line.new run) }
 {
     let before = putter.sent();
     line.step(step, putter);

@@ -11,6 +11,7 @@ ghost use Rattle.play_base.specs.Beginning.{IsAtPhase};
 ghost use Rattle.play_base.specs.Phases.{HavePlayedInOrder, IsBeforePhase, IsStopped};
 
 use crate::after_line::play_after_line;
+use crate::followers::Nobody;
 use crate::line::play_line;
 use line_steps::LineSteps;
 use play_base::{Role, Station, move_on, roles_of, scripts_of, steps_of, ticks_of};
@@ -50,6 +51,7 @@ fn play_parts(
         &mut station.port,
         &mut station.putter,
         &mut station.line,
+        &mut Nobody,
         steps,
         run,
     )?;

@@ -1,5 +1,8 @@
 pub mod TheEntry
 pub mod Losing
+pub mod NextEntry
+pub mod OneLine
+pub mod BothLines
 pub mod OneRun
 pub mod Shapes
 pub mod Waits

@@ -19,7 +19,7 @@ use Rattle.tty_terminal.specs.Runs.{is_of_call, phase_after}
 use Rattle.legal_runs.specs.Legal.{first_step, steps_in, flip_on, IsInPhase, is_caller_end}
 use Rattle.one_order.specs.Order.{Place, first_place, next_place, place_after}
 use Rattle.one_order.proofs.Places.{place_more}
-use Rattle.order_laws.proofs.OneRun.{IsRest, coming_call}
+use Rattle.order_laws.proofs.NextEntry.{IsRest, coming_call}
 use Rattle.passed_calls.specs.Journals.{terminal_after}
 use Rattle.passed_laws.proofs.Journeys.{Journey, answer_count, answers_of, call_step, begins_at, take_one}
 

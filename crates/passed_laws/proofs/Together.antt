@@ -13,7 +13,7 @@ use Rattle.legal_runs.specs.Legal.{flip_on}
 use Rattle.one_order.specs.Order.{Place, first_place, next_place, place_after, is_waiting}
 use Rattle.one_order.proofs.Places.{place_more, leads_place}
 use Rattle.order_laws.proofs.Growing.{WaitAlike}
-use Rattle.order_laws.proofs.OneRun.{IsRest}
+use Rattle.order_laws.proofs.NextEntry.{IsRest}
 use Rattle.passed_calls.specs.Journals.{terminal_after}
 use Rattle.passed_laws.proofs.Comings.{at_step, own_begins}
 use Rattle.passed_laws.proofs.Journeys.{Journey, take_one, to_here, other_next, other_begun, who_is}

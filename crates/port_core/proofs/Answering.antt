@@ -6,19 +6,23 @@ use Rattle.tty_base.specs.Sizes.{COLUMNS_OF_PIECE, MOST_FLIP}
 use Rattle.tty_base.specs.declared.characters.Flagged.{Flagged}
 use Rattle.word_ring.specs.Ends.{TakerState}
 use Rattle.port_core.specs.declared.waiting.WaitingCall.{WaitingCall}
-use Rattle.tty_calls.specs.Plain.{PlainCall, handle_of, PlainAnswer, answered, parted, waited, PlainEntry}
+use Rattle.tty_calls.specs.declared.journals.Who.TheVariants.{Caller}
+use Rattle.tty_calls.specs.Plain.{PlainCall, handle_of, PlainAnswer, PlainEvent, answered, parted, waited, PlainEntry}
 use Rattle.ldisc_switch.specs.Disciplines.{column_in}
+use Rattle.tty_terminal.specs.declared.callers.CallerState.{CallerState}
+use Rattle.tty_terminal.specs.declared.rooms.Met.{Met}
 use Rattle.tty_terminal.specs.Terminals.{Terminal, caller_at, has_begun}
 use Rattle.tty_terminal.specs.Calls.{outcome, outcome_of}
-use Rattle.tty_terminal.specs.Meeting.{drops_of}
+use Rattle.tty_terminal.specs.Meeting.{Meets, drops_of}
 use Rattle.tty_terminal.specs.Steps.{Answers, Drops, MustWait, TakesPart, left_by, with_dropped, after_answer}
 use Rattle.tty_terminal.specs.Steps.{after_part, after_wait, handle_number, Allowed, after, quiet}
+use Rattle.tty_terminal.proofs.Effects.{Leaves, outcome_keeps}
 use Rattle.port_core.specs.Flips.{DropsShown}
-use Rattle.port_core.specs.Ports.{PortValue, call_in, kept_with, with_call, with_entry, caller_entry}
+use Rattle.port_core.specs.Ports.{PlainKept, PortValue, IsOpen, call_in, kept_with, with_call, with_entry, caller_entry}
 use Rattle.port_core.specs.Attempts.{IsReady, AnswersCall, TakesPartOf, MustGoOnWaiting}
 use Rattle.port_core.specs.Inside.{call_waiting, KeepsCalls}
-use Rattle.port_core.proofs.GoingOn.{port_callers}
-use Rattle.port_core.proofs.Calls.{known_call, answered_holds, parted_holds, waited_holds, call_goes_on}
+use Rattle.port_core.proofs.GoingOn.{made, entry_added, few_in, port_callers}
+use Rattle.port_core.proofs.Calls.{begun_is, known_call, answered_holds, parted_holds, waited_holds, call_goes_on}
 use Rattle.port_core.proofs.Handing.{when_false}
 
 -- what the attempt of a call finds
@@ -26,6 +30,41 @@ pub record IsTried (v : PortValue) (slots : List (Option WaitingCall)) (c step :
   pub keeps : KeepsCalls v slots
   pub few : length v.journal < v.limit
   pub ready : IsReady v c step call
+
+-- likewise, from what its caller knows of the port
+pub tries : (v w : PortValue) (slots : List (Option WaitingCall)) (c step : ℕ) (call : PlainCall)
+    → v ≡ w
+    → KeepsCalls v slots
+    → IsOpen w
+    → IsReady w c step call
+    → IsTried v slots c step call
+tries v w slots c step call is keeps can ready =
+    record {
+      keeps = keeps;
+      few = few_in v w is can;
+      ready = subst (λ (x : PortValue). IsReady x c step call) (sym is) ready;
+    }
+
+-- what a call met, and what it left of the terminal
+pub record MetBy (t : Terminal) (c : ℕ) (call : PlainCall) (m : Met) (left : Terminal) : Type 0 where
+  pub meets : Meets (outcome t (caller_at t c) call) m
+  pub left_is : left ≡ left_by (outcome t (caller_at t c) call) t
+  pub column : column_in left.disc ≤ column_in t.disc + COLUMNS_OF_PIECE
+
+-- likewise of the terminal before room was made in it
+pub met_before : (t u : Terminal) (c : ℕ) (call : PlainCall) (m : Met) (left : Terminal)
+    → u ≡ t
+    → MetBy u c call m left
+    → MetBy t c call m left
+met_before t u c call m left same met = subst (λ (x : Terminal). MetBy x c call m left) same met
+
+-- what a call leaves of the terminal
+pub leaves_of : (t u w : Terminal) (d : ℕ) (call : PlainCall)
+    → u ≡ t
+    → w ≡ left_by (outcome u (caller_at u d) call) u
+    → Leaves t w
+leaves_of t u w d call same left = subst (λ (x : Terminal). Leaves x w) same
+    (subst (λ (x : Terminal). Leaves u x) (sym left) (outcome_keeps u (caller_at u d) (Some call)).left)
 
 -- the port with this terminal, this flip buffer and this entry of a call
 abbrev pub after_call : PortValue → ℕ → ℕ → PlainCall → Terminal → TakerState Flagged → PlainEntry → PortValue
@@ -36,6 +75,48 @@ after_call v c step call u f e =
       kept = kept_with (has_begun (caller_at v.terminal c)) v.kept c step call;
       flip = f;
     }
+
+-- the steps that end each attempt: its entry, and the call that is kept
+pub record IsNoted (v : PortValue) (c step : ℕ) (call : PlainCall) (event : PlainEvent) (js : List PlainEntry)
+    (ks : List PlainKept) : Type 0 where
+  pub journal : js ≡ v.journal ++ caller_entry v c event ∷ []
+  pub kept : ks ≡ kept_with (has_begun (caller_at v.terminal c)) v.kept c step call
+
+pub noted : (v : PortValue) (c step generation : ℕ) (call : PlainCall) (state : CallerState) (begun : Bool)
+    (event said : PlainEvent) (e : PlainEntry) (before js : List PlainEntry) (ks : List PlainKept)
+    → step ≡ (caller_at v.terminal c).next
+    → state ≡ caller_at v.terminal c
+    → begun ≡ is_some state.bound
+    → generation ≡ v.terminal.generation
+    → said ≡ event
+    → e ≡ record { who = Caller c; step = step; part = state.parts; generation = generation; event = said }
+    → before ≡ v.journal
+    → js ≡ before ++ e ∷ []
+    → ks ≡ kept_with begun v.kept c step call
+    → IsNoted v c step call event js ks
+noted v c step generation call state begun event said e before js ks next stands has same says entry kept added holds =
+    record {
+      journal = entry_added v.journal before js e (caller_entry v c event) kept added (entry
+          ∙ (λ i. record {
+            who = Caller c;
+            step = next i;
+            part = (stands i).parts;
+            generation = same i;
+            event = says i;
+          }));
+      kept = holds ∙ ap (λ (b : Bool). kept_with b v.kept c step call) (begun_is v.terminal c state begun stands has);
+    }
+
+-- the port that an attempt leaves
+pub made_by_call : (v : PortValue) (c step : ℕ) (call : PlainCall) (event : PlainEvent) (t u : Terminal)
+    (js : List PlainEntry) (ks : List PlainKept) (starved : Bool) (f : TakerState Flagged)
+    → IsNoted v c step call event js ks
+    → t ≡ u
+    → starved ≡ v.starved
+    → record v { terminal = t; journal = js; kept = ks; starved = starved; flip = f }
+    ≡ after_call v c step call u f (caller_entry v c event)
+made_by_call v c step call event t u js ks starved f notes left same = made v t u js _ ks _ starved f f left
+    notes.journal notes.kept same refl
 
 found_now : (v : PortValue) (slots : List (Option WaitingCall)) (c step : ℕ) (call : PlainCall)
     → IsTried v slots c step call

@@ -6,6 +6,7 @@ use Rattle.std.proofs.lemmas.Bool.{false≢true}
 use Rattle.tty_base.specs.Sizes.{COLUMNS_OF_ENTRY, MOST_ENTRIES, MOST_FLIP}
 use Rattle.tty_base.specs.declared.characters.Flagged.{Flagged}
 use Rattle.word_ring.specs.Ends.{TakerState}
+use Rattle.tty_calls.specs.declared.journals.Who.{Who}
 use Rattle.tty_calls.specs.Plain.{PlainCall, PlainEvent, answered, parted, waited, flushed, ticked, line_ended}
 use Rattle.tty_calls.specs.Plain.{clock_ended, caller_ended, phase_ended, hung_up, PlainEntry, is_caller, chars_in}
 use Rattle.ldisc_switch.specs.Disciplines.{column_in}
@@ -21,7 +22,7 @@ use Rattle.tty_terminal.proofs.Grown.{leads_grown}
 use Rattle.tty_terminal.proofs.Agreeing.{leads_agrees}
 use Rattle.tty_terminal.proofs.OneRun.{one_more}
 use Rattle.port_core.specs.declared.waiting.WaitingCall.{WaitingCall}
-use Rattle.port_core.specs.Ports.{PlainKept, PortValue, IsPort, call_in, AllBegun, with_entry}
+use Rattle.port_core.specs.Ports.{PlainKept, PortValue, IsPort, call_in, AllBegun, with_entry, phase_entry, IsOpen}
 use Rattle.port_core.specs.Inside.{AreWaitingCalls, KeepsCalls}
 
 -- the port with more calls kept, this flip buffer, and one more entry
@@ -276,6 +277,20 @@ pub entry_added : (js ks ls : List PlainEntry) (d e : PlainEntry)
     → d ≡ e
     → ls ≡ js ++ e ∷ []
 entry_added js ks ls d e same added is = added ∙ (λ i. same i ++ is i ∷ [])
+
+-- an entry of the phase is added to a journal
+pub phase_entry_added : (v w : PortValue) (who : Who) (event : PlainEvent) (e : PlainEntry) (js : List PlainEntry)
+    → v ≡ w
+    → e ≡ phase_entry w who event
+    → js ≡ v.journal ++ e ∷ []
+    → js ≡ v.journal ++ phase_entry v who event ∷ []
+phase_entry_added v w who event e js is entry added =
+    added
+    ∙ ap (λ (x : PlainEntry). v.journal ++ x ∷ []) (entry ∙ ap (λ (x : PortValue). phase_entry x who event) (sym is))
+
+-- a port that can make an entry has few
+pub few_in : (v w : PortValue) → v ≡ w → IsOpen w → length v.journal < v.limit
+few_in v w is can = subst (λ (x : PortValue). length x.journal < x.limit) (sym is) can.0
 
 -- a flip buffer from which nothing was taken
 pub none_taken : (f g : TakerState Flagged) → g.taken ≡ f.taken → g.taken ≡ f.taken ++ []

@@ -1,10 +1,10 @@
 //! Memory for entries and kept calls. A call of a port takes all its memory by these functions before
 //! it changes anything.
 
-ghost use Rattle.std.specs.Prelude.{◌≡◌, ◌≤◌, ◌<◌, [], true, IfOk, IfErr, OnOk};
+ghost use Rattle.std.specs.Prelude.{◌≡◌, ◌≤◌, ◌<◌, ◌++◌, ◌∷◌, [], true, IfOk, IfErr, OnOk, OnErr};
 ghost use Rattle.tty_base.specs.Sizes.{PIECE};
 ghost use Rattle.tty_calls.specs.declared.journals.Who.TheVariants.{Caller, Flusher};
-ghost use Rattle.tty_calls.specs.Plain.{call_of, entry_of, event_of, flushed};
+ghost use Rattle.tty_calls.specs.Plain.{call_of, entry_of, event_of, flushed, bytes_by, chars_in};
 ghost use Rattle.port_core.specs.Inside.{call_waiting, can_wait};
 ghost use Rattle.tty_terminal.specs.Meeting.{IsRoomFor, room_for_characters};
 
@@ -43,6 +43,26 @@ pub(crate) fn reserve_entry(
         Ok(()) => Ok(()),
         Err(NoMemory) => Err(starve(starved)),
     }
+}
+
+/// Makes an entry that gives no bytes and takes no characters out of the flip buffer; or notes that no memory
+/// is left.
+#[inline(always)]
+pub(crate) fn add_entry(
+    journal: &mut Journal,
+    starved: &mut bool,
+    entry: &Entry,
+) -> Result<(), Denied>
+    requires bytes { bytes_by (event_of entry.now.event) ≡ [] }
+    requires characters { chars_in (event_of entry.now.event) ≡ [] }
+    ensures entry { OnOk result (journal.new.items ≡ journal.old.items ++ entry_of entry.now ∷ []) }
+    ensures none { OnErr result (journal.new.items ≡ journal.old.items) }
+    ensures ok { OnOk result (starved.new ≡ starved.old) }
+    ensures err { IfErr result (λ d. (d ≡ Denied.NoMemory) × (starved.new ≡ true)) }
+{
+    reserve_entry(journal, starved, 0, 0)?;
+    journal.add(entry);
+    Ok(())
 }
 
 /// Takes the memory for so many more characters, or notes that none is left.

@@ -3,7 +3,7 @@
 ghost use Rattle.std.specs.Prelude.{◌≡◌, ℕ, Option, [], false};
 ghost use Rattle.std.specs.Prelude.{◌+◌, ◌≤◌, ◌<◌, IsTrue, IfOk, IfErr, OnOk, length, sum};
 ghost use Rattle.tty_base.specs.Sizes.{MOST_ENTRIES, MOST_FLIP, MOST_PHASES};
-ghost use Rattle.tty_calls.specs.Plain.{PlainCall, ticked, clock_ended};
+ghost use Rattle.tty_calls.specs.Plain.{PlainCall, entry_of, event_of, ticked, clock_ended};
 ghost use Rattle.tty_calls.specs.declared.journals.Who.TheVariants.{Clock};
 
 pub(crate) mod attempting;
@@ -12,7 +12,7 @@ pub(crate) mod flushing;
 mod giving;
 
 use crate::asked::AskedCalls;
-use crate::entries::reserve_entry;
+use crate::entries::{add_entry, entry_of_call};
 use crate::waiting::WaitingCall;
 use flip_buffer::FlipOut;
 use handle_table::HandleState;
@@ -138,6 +138,20 @@ impl Port {
         }
     }
 
+    /// An entry of the phase that runs.
+    #[inline(always)]
+    fn entry_of_phase<'a>(&self, who: Who, event: Event<'a>) -> Entry<'a>
+        ensures { entry_of result ≡ phase_entry self.now who (event_of event.entry) }
+    {
+        Entry {
+            who,
+            step: self.terminal.phase(),
+            part: 0,
+            generation: self.terminal.generation(),
+            event,
+        }
+    }
+
     /// A tenth of a second passed.
     pub fn tick(&mut self) -> Result<(), Denied>
         requires { self.old.terminal.clock_over ≡ false }
@@ -146,16 +160,9 @@ impl Port {
         ensures err { IfErr result (λ d. Denies d self.old self.new) }
     {
         self.gate()?;
-        reserve_entry(&mut self.journal, &mut self.starved, 0, 0)?;
-        let entry = Entry {
-            who: Who::Clock,
-            step: self.terminal.phase(),
-            part: 0,
-            generation: self.terminal.generation(),
-            event: Event::Tick,
-        };
+        let entry = self.entry_of_phase(Who::Clock, Event::Tick);
+        add_entry(&mut self.journal, &mut self.starved, &entry)?;
         self.terminal.raise_tick();
-        self.journal.add(&entry);
         Ok(())
     }
 
@@ -167,16 +174,9 @@ impl Port {
         ensures err { IfErr result (λ d. Denies d self.old self.new) }
     {
         self.gate()?;
-        reserve_entry(&mut self.journal, &mut self.starved, 0, 0)?;
-        let entry = Entry {
-            who: Who::Clock,
-            step: self.terminal.phase(),
-            part: 0,
-            generation: self.terminal.generation(),
-            event: Event::ClockEnd,
-        };
+        let entry = self.entry_of_phase(Who::Clock, Event::ClockEnd);
+        add_entry(&mut self.journal, &mut self.starved, &entry)?;
         self.terminal.end_clock();
-        self.journal.add(&entry);
         Ok(())
     }
 
@@ -190,16 +190,11 @@ impl Port {
         ensures err { IfErr result (λ d. Denies d self.old self.new) }
     {
         self.gate()?;
-        reserve_entry(&mut self.journal, &mut self.starved, 0, 0)?;
-        let entry = Entry {
-            who: Who::Caller(caller),
-            step: self.terminal.caller(caller).next,
-            part: 0,
-            generation: self.terminal.generation(),
-            event: Event::CallerEnd,
-        };
+        let step = self.terminal.caller(caller).next;
+        let generation = self.terminal.generation();
+        let entry = entry_of_call(caller, step, 0, generation, Event::CallerEnd);
+        add_entry(&mut self.journal, &mut self.starved, &entry)?;
         self.terminal.end_caller(caller);
-        self.journal.add(&entry);
         Ok(())
     }
 
@@ -321,10 +316,9 @@ impl Port {
 
     /// A law: what is known of every port. Its journal is a run that leads to the terminal. Where each caller stands
     /// follows from its own entries and the ends of phases, so that a caller which made these knows what `attempt`
-    /// needs;
-    /// all entries together tell where line, clock and flush runs stand. The terminal counts what was taken out of the
-    /// flip buffer; no more is known to be sent than the flip buffer holds beside that, and once the line is over, no
-    /// more is taken than it sent.
+    /// needs; all entries together tell where line, clock and flush runs stand. The terminal counts what was taken out
+    /// of the flip buffer; no more is known to be sent than the flip buffer holds beside that, and once the line is
+    /// over, no more is taken than it sent.
     pub fn known(&self)
         ensures port { IsPort self.now }
         ensures callers { (c : ℕ)

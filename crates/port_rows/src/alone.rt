@@ -7,12 +7,13 @@ ghost use Rattle.tty_calls.specs.Limits.{byte_count};
 
 use flip_buffer::flip;
 use port_core::{Port, Tried};
+use row_tables::{NOTHING_COUNTED, Wanted, is_answer};
 use std::alloc::Global;
 use std::marker::Model;
 use std::test::Fail;
-use tty_base::{Counts, Errno, NoMemory};
-use tty_calls::{Access, Act, Answer, Call, Denied, Queue, When};
-use tty_modes::{Modes, Word};
+use tty_base::{Errno, NoMemory};
+use tty_calls::{Access, Act, Call, Denied, Queue, When};
+use tty_modes::Word;
 
 /// A port for one caller in one phase.
 #[derive(Drop)]
@@ -43,7 +44,7 @@ impl OneCaller {
     }
 
     /// How the caller's next call goes, unless a call of it has begun.
-    fn goes(&mut self, call: &Call, wanted: Wanted) -> Went {
+    fn goes(&mut self, call: &Call, wanted: &Wanted) -> Went {
         let state = self.port.caller(0);
         if state.over || state.bound.is_some() || state.parts > 0 || !is_in_range(call) {
             return Went::Otherwise;
@@ -78,82 +79,6 @@ fn is_in_range(call: &Call) -> bool
     few && call.handle() < 32
 }
 
-/// What a call is to be answered.
-#[derive(Clone, Copy)]
-enum Wanted {
-    Done,
-    Count(u32),
-    Number(u32),
-    /// No bytes: the end of file.
-    Nothing,
-    /// The default modes.
-    Sane,
-    /// Counts that are all 0.
-    NoCounts,
-    Refused(Errno),
-}
-
-fn is_done(answer: &Answer) -> bool {
-    match answer {
-        Answer::Done => true,
-        _ => false,
-    }
-}
-
-fn count_of(answer: &Answer) -> Option<u32> {
-    match answer {
-        Answer::Count(count) => Some(*count),
-        _ => None,
-    }
-}
-
-fn number_of(answer: &Answer) -> Option<u32> {
-    match answer {
-        Answer::Number(number) => Some(*number),
-        _ => None,
-    }
-}
-
-fn is_end(answer: &Answer) -> bool {
-    match answer {
-        Answer::Got(bytes) => bytes.is_empty(),
-        _ => false,
-    }
-}
-
-fn is_sane(answer: &Answer) -> bool {
-    match answer {
-        Answer::ModesAre(modes) => *modes == Modes::sane(),
-        _ => false,
-    }
-}
-
-fn has_no_counts(answer: &Answer) -> bool {
-    match answer {
-        Answer::CountsAre(counts) => **counts == Counts::default(),
-        _ => false,
-    }
-}
-
-fn refusal_of(answer: &Answer) -> Option<Errno> {
-    match answer {
-        Answer::Refused(errno) => Some(*errno),
-        _ => None,
-    }
-}
-
-fn is_answer(answer: &Answer, wanted: Wanted) -> bool {
-    match wanted {
-        Wanted::Done => is_done(answer),
-        Wanted::Count(count) => count_of(answer) == Some(count),
-        Wanted::Number(number) => number_of(answer) == Some(number),
-        Wanted::Nothing => is_end(answer),
-        Wanted::Sane => is_sane(answer),
-        Wanted::NoCounts => has_no_counts(answer),
-        Wanted::Refused(errno) => refusal_of(answer) == Some(errno),
-    }
-}
-
 /// How a call goes that is tried.
 #[derive(Clone, Copy)]
 enum Went {
@@ -167,7 +92,7 @@ enum Went {
     Otherwise,
 }
 
-fn went_by(tried: &Result<Tried, Denied>, wanted: Wanted) -> Went {
+fn went_by(tried: &Result<Tried, Denied>, wanted: &Wanted) -> Went {
     match tried {
         Ok(tried) => answered_by(tried, wanted),
         Err(Denied::NoMemory) => Went::Starved,
@@ -175,7 +100,7 @@ fn went_by(tried: &Result<Tried, Denied>, wanted: Wanted) -> Went {
     }
 }
 
-fn answered_by(tried: &Tried, wanted: Wanted) -> Went {
+fn answered_by(tried: &Tried, wanted: &Wanted) -> Went {
     match tried {
         Tried::Done(answer) if is_answer(answer, wanted) => Went::Well,
         _ => Went::Otherwise,
@@ -197,7 +122,7 @@ fn is_full(went: Went) -> bool {
 }
 
 /// Each call at least once, and what it is to be answered after those before it.
-const ROWS: [(Call<'static>, Wanted); 22] = [
+const ROWS: [(Call<'static>, Wanted<'static>); 22] = [
     (
         Call::Open {
             h: 0,
@@ -237,7 +162,7 @@ const ROWS: [(Call<'static>, Wanted); 22] = [
     (Call::Drain { h: 0 }, Wanted::Done),
     (Call::Inq { h: 0 }, Wanted::Number(0)),
     (Call::Read { h: 0, n: 8 }, Wanted::Refused(Errno::EAGAIN)),
-    (Call::Counts { h: 0 }, Wanted::NoCounts),
+    (Call::Counts { h: 0 }, Wanted::Counts(NOTHING_COUNTED)),
     (
         Call::Flush {
             h: 0,
@@ -253,7 +178,7 @@ const ROWS: [(Call<'static>, Wanted); 22] = [
     (Call::SendPacket { h: 0, bytes: b"c" }, Wanted::Done),
     (Call::TakePacket { h: 0 }, Wanted::Refused(Errno::EAGAIN)),
     (Call::Vhangup { h: 0 }, Wanted::Done),
-    (Call::Read { h: 0, n: 8 }, Wanted::Nothing),
+    (Call::Read { h: 0, n: 8 }, Wanted::Got(b"")),
     (Call::Close { h: 0 }, Wanted::Done),
 ];
 
@@ -265,9 +190,9 @@ fn is_full_at_two(one: &mut OneCaller) -> bool {
         nonblock: false,
     };
     let ask = Call::GetDisc { h: 0 };
-    let first = is_well(one.goes(&open, Wanted::Done));
-    let second = is_well(one.goes(&ask, Wanted::Number(0)));
-    let third = is_full(one.goes(&ask, Wanted::Number(0)));
+    let first = is_well(one.goes(&open, &Wanted::Done));
+    let second = is_well(one.goes(&ask, &Wanted::Number(0)));
+    let third = is_full(one.goes(&ask, &Wanted::Number(0)));
     first && second && third && one.entries() == 2
 }
 
@@ -282,7 +207,7 @@ fn a_full_journal_keeps_its_entries(rt: HostRuntime) -> Result<(), Fail> {
 
 /// Whether a call is answered as wanted and makes one entry, or is refused memory and makes none; and none is answered
 /// once `refused` is set.
-fn is_kept(one: &mut OneCaller, call: &Call, wanted: Wanted, refused: &mut bool) -> bool {
+fn is_kept(one: &mut OneCaller, call: &Call, wanted: &Wanted, refused: &mut bool) -> bool {
     let before = one.entries();
     let went = one.goes(call, wanted);
     let made = one.entries().checked_sub(before);
@@ -301,7 +226,7 @@ fn answered(one: &mut OneCaller) -> Option<usize> {
     let mut refused = false;
     let mut count = 0usize;
     for row in ROWS {
-        if !is_kept(one, &row.0, row.1, &mut refused) {
+        if !is_kept(one, &row.0, &row.1, &mut refused) {
             return None;
         }
         if !refused {
@@ -309,15 +234,6 @@ fn answered(one: &mut OneCaller) -> Option<usize> {
         }
     }
     Some(count)
-}
-
-#[test]
-fn each_call_is_answered(rt: HostRuntime) -> Result<(), Fail> {
-    let mut one = OneCaller::new(rt.alloc(), 64)?;
-    let answered = answered(&mut one);
-    drop(one);
-    assert!(rt; answered == Some(22));
-    Ok(())
 }
 
 /// Whether all calls are answered, or each is refused memory from the first refusal on.
@@ -328,9 +244,9 @@ fn is_told_from_then_on(one: &mut OneCaller) -> bool {
     }
 }
 
-/// Nothing is refused where memory is ample: this is for a run in which an allocation fails.
+/// Nothing is refused where memory is ample: then all are answered.
 #[test]
-fn a_refusal_keeps_the_journal_and_is_told_from_then_on(rt: HostRuntime) -> Result<(), Fail> {
+fn each_call_is_answered_or_refused_from_the_first_refusal_on(rt: HostRuntime) -> Result<(), Fail> {
     let mut one = OneCaller::new(rt.alloc(), 64)?;
     let is_told = is_told_from_then_on(&mut one);
     drop(one);

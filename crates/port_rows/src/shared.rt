@@ -1,5 +1,4 @@
-//! A port that threads share: callers beside one another and beside a flusher, the entries that each seat makes, and
-//! a read that is answered within a write.
+//! A port that threads share: callers beside one another and beside a flusher, and the entries that each seat makes.
 
 ghost use Rattle.std.specs.Prelude.{◌≡◌, ◌+◌, ◌<◌, ◌^◌, [], IfOk, IfSome, length, sum};
 ghost use Rattle.std.specs.Thread.{IsSync};
@@ -14,13 +13,12 @@ use flip_buffer::{FlipIn, flip};
 use port_core::Port;
 use std::alloc::Global;
 use std::sync::Wait;
-use std::sync::atomic::{AtomicU64, Ordering};
 use std::test::Fail;
 use std::thread::{Threads, join, yield_now};
-use tty_base::{Errno, Flag, Flagged, NoMemory, Put};
-use tty_calls::{Access, Answer, AnswerRef, Call, Denied, Event, Journal, When, Who};
+use tty_base::{Flag, Flagged, NoMemory, Put};
+use tty_calls::{Access, Answer, Call, Denied, Event, Journal, When, Who};
 use tty_modes::Word;
-use tty_port::{Gate, OpenGate, Seat, SharedPort};
+use tty_port::{OpenGate, Seat, SharedPort};
 
 fn moves<T: Send>() {}
 
@@ -100,14 +98,13 @@ fn apart(shared: &SharedPort, mut all: Vec<Seat>) -> Seats
 }
 
 /// Makes a caller's next call; `None` where it is denied.
-fn make<R: Wait, G: Gate>(
+fn make<R: Wait>(
     rt: &R,
     shared: &SharedPort,
     seat: &mut Seat,
     caller: u16,
     step: u32,
     call: &Call,
-    gate: &G,
 ) -> Option<Answer>
     requires seat { IsHere shared.now caller seat.old }
     requires known { (caller < 2) × (sum (name_of_port shared.now).counts ≡ 2) }
@@ -117,18 +114,17 @@ fn make<R: Wait, G: Gate>(
     ensures seat { IsHere shared.now caller seat.new }
     ensures between { IfSome result (λ _. IsBetweenCalls caller (step + 1) (list_seen seat.new)) }
 {
-    shared.call(rt, seat, caller, step, call, gate).ok()
+    shared.call(rt, seat, caller, step, call, &OpenGate).ok()
 }
 
 /// Likewise, where it is of no interest what the call is answered.
-fn makes<R: Wait, G: Gate>(
+fn makes<R: Wait>(
     rt: &R,
     shared: &SharedPort,
     seat: &mut Seat,
     caller: u16,
     step: u32,
     call: &Call,
-    gate: &G,
 ) -> Option<()>
     requires seat { IsHere shared.now caller seat.old }
     requires known { (caller < 2) × (sum (name_of_port shared.now).counts ≡ 2) }
@@ -138,7 +134,7 @@ fn makes<R: Wait, G: Gate>(
     ensures seat { IsHere shared.now caller seat.new }
     ensures between { IfSome result (λ _. IsBetweenCalls caller (step + 1) (list_seen seat.new)) }
 {
-    let Some(answer) = make(rt, shared, seat, caller, step, call, gate) else {
+    let Some(answer) = make(rt, shared, seat, caller, step, call) else {
         return None;
     };
     drop(answer);
@@ -164,12 +160,12 @@ fn ask<'a, 'c, R: Wait>(
         access: Access::Rw,
         nonblock: false,
     };
-    let Some(_opened) = makes(rt, shared, &mut seat, caller, 0, &open, &OpenGate) else {
+    let Some(_opened) = makes(rt, shared, &mut seat, caller, 0, &open) else {
         return seat;
     };
     for step in 1..1001 {
         let call = if step % 2 == 0 { calls.0 } else { calls.1 };
-        let Some(_made) = makes(rt, shared, &mut seat, caller, step, call, &OpenGate) else {
+        let Some(_made) = makes(rt, shared, &mut seat, caller, step, call) else {
             return seat;
         };
     }
@@ -410,7 +406,7 @@ fn open_first<R: Wait>(rt: &R, shared: &SharedPort, seat: &mut Seat) -> Option<(
         access: Access::Rw,
         nonblock: true,
     };
-    makes(rt, shared, seat, 0, 0, &open, &OpenGate)
+    makes(rt, shared, seat, 0, 0, &open)
 }
 
 /// Opens the port, makes it raw, and reads what a flush run handed over before the line's end. Tells
@@ -435,14 +431,14 @@ fn read_early<R: Wait>(
     let Some(_opened) = open_first(rt, shared, caller) else {
         return None;
     };
-    let Some(_changed) = makes(rt, shared, caller, 0, 1, raw, &OpenGate) else {
+    let Some(_changed) = makes(rt, shared, caller, 0, 1, raw) else {
         return None;
     };
     let Ok(count) = shared.flush_run(rt, flusher, 0) else {
         return None;
     };
     let read = Call::Read { h: 0, n: 8 };
-    let Some(answer) = make(rt, shared, caller, 0, 2, &read, &OpenGate) else {
+    let Some(answer) = make(rt, shared, caller, 0, 2, &read) else {
         return None;
     };
     let gave = gives(&answer, b"x");
@@ -606,192 +602,5 @@ fn each_seat_makes_its_entries(rt: HostRuntime) -> Result<(), Fail> {
     let are_made = is_the_phase(found) && are_made(port.journal());
     drop(port);
     assert!(rt; are_made);
-    Ok(())
-}
-
-/// Holds the second caller's first call until the first caller's write has taken a part, and the write
-/// from there on until the second caller's next call has come; but nobody for ever.
-#[derive(Drop)]
-struct BetweenParts {
-    parted: AtomicU64,
-    came: AtomicU64,
-}
-
-/// Waits for a while until a word is set.
-fn await_word(word: &AtomicU64) {
-    for _ in 0..10_000_000 {
-        if word.load(Ordering::SeqCst) == 1 {
-            return;
-        }
-        yield_now();
-    }
-}
-
-impl Gate for BetweenParts {
-    fn pass<R: Wait>(&self, _rt: &R, who: Who, step: u32, part: u32) {
-        match (who, step, part) {
-            (Who::Caller(0), 1, 1) => {
-                self.parted.store(1, Ordering::SeqCst);
-                await_word(&self.came);
-            }
-            (Who::Caller(1), 0, 0) => await_word(&self.parted),
-            (Who::Caller(1), 1, 0) => self.came.store(1, Ordering::SeqCst),
-            _ => {}
-        }
-    }
-}
-
-/// The first caller opens the port and writes.
-fn write<R: Wait, G: Gate>(
-    rt: &R,
-    shared: &SharedPort,
-    mut seat: Seat,
-    call: &Call,
-    gate: &G,
-) -> Seat
-    requires seat { IsHere shared.now 0 seat × (list_seen seat ≡ []) }
-    requires callers { sum (name_of_port shared.now).counts ≡ 2 }
-    requires number { handle_of (call_of call.now) < 32 }
-    requires bytes { byte_count (call_of call.now) < 2 ^ 32 }
-    ensures { IsHere shared.now 0 result }
-{
-    let Some(_opened) = open_first(rt, shared, &mut seat) else {
-        return seat;
-    };
-    let _made = makes(rt, shared, &mut seat, 0, 1, call, gate);
-    seat
-}
-
-/// The second caller reads, and then asks for the discipline.
-fn read_and_ask<R: Wait, G: Gate>(rt: &R, shared: &SharedPort, mut seat: Seat, gate: &G) -> Seat
-    requires seat { IsHere shared.now 1 seat × (list_seen seat ≡ []) }
-    requires callers { sum (name_of_port shared.now).counts ≡ 2 }
-    ensures { IsHere shared.now 1 result }
-{
-    let read = Call::Read { h: 0, n: 8 };
-    let Some(_read) = makes(rt, shared, &mut seat, 1, 0, &read, gate) else {
-        return seat;
-    };
-    let asked = Call::GetDisc { h: 0 };
-    let _made = makes(rt, shared, &mut seat, 1, 1, &asked, gate);
-    seat
-}
-
-/// Both callers beside one another, held by the gate.
-fn both<R: Threads + Wait + Sync>(
-    rt: &R,
-    shared: &SharedPort,
-    seats: (Seat, Seat),
-    call: &Call,
-    gate: &BetweenParts,
-) -> (Seat, Seat)
-    requires first { IsHere shared.now 0 seats.0 × (list_seen seats.0 ≡ []) }
-    requires second { IsHere shared.now 1 seats.1 × (list_seen seats.1 ≡ []) }
-    requires callers { sum (name_of_port shared.now).counts ≡ 2 }
-    requires number { handle_of (call_of call.now) < 32 }
-    requires bytes { byte_count (call_of call.now) < 2 ^ 32 }
-    ensures first { IsHere shared.now 0 result.0 }
-    ensures second { IsHere shared.now 1 result.1 }
-{
-    let (one, two) = seats;
-    join(
-        rt,
-        move || -> Seat
-            requires { IsSync R.row
-                × IsHere shared.now 0 one
-                × (list_seen one ≡ [])
-                × (sum (name_of_port shared.now).counts ≡ 2)
-                × (handle_of (call_of call.now) < 32)
-                × (byte_count (call_of call.now) < 2 ^ 32) }
-            ensures { IsHere shared.entry.now 0 result }
-        { write(rt, shared, one, call, gate) },
-        move || -> Seat
-            requires { IsSync R.row
-                × IsHere shared.now 1 two
-                × (list_seen two ≡ [])
-                × (sum (name_of_port shared.now).counts ≡ 2) }
-            ensures { IsHere shared.entry.now 1 result }
-        { read_and_ask(rt, shared, two, gate) },
-    )
-}
-
-/// Plays both callers on threads, after the clock's first tick.
-fn play_between<R: Threads + Wait + Sync>(
-    rt: &R,
-    alloc: Global,
-    call: &Call,
-) -> Result<Port, NoMemory>
-    requires number { handle_of (call_of call.now) < 32 }
-    requires bytes { byte_count (call_of call.now) < 2 ^ 32 }
-{
-    let gate = BetweenParts {
-        parted: AtomicU64::new(0),
-        came: AtomicU64::new(0),
-    };
-    let (putter, shared, all) = share(alloc)?;
-    let Seats {
-        first,
-        second,
-        flusher,
-        line,
-        mut clock,
-        session,
-    } = apart(&shared, all);
-    let _ticked = shared.tick(rt, &mut clock);
-    let (first, second) = both(rt, &shared, (first, second), call, &gate);
-    drop(putter);
-    let seats = Seats {
-        first,
-        second,
-        flusher,
-        line,
-        clock,
-        session,
-    };
-    end(alloc, shared, seats)
-}
-
-fn is_part(event: &Event, bytes: u32) -> bool {
-    match event {
-        Event::Part(count) => *count == bytes,
-        _ => false,
-    }
-}
-
-fn is_refused(event: &Event, errno: Errno) -> bool {
-    match event {
-        Event::Answer { answer, .. } => refuses(answer, errno),
-        _ => false,
-    }
-}
-
-fn refuses(answer: &AnswerRef, wanted: Errno) -> bool {
-    match answer {
-        AnswerRef::Refused(errno) => *errno == wanted,
-        _ => false,
-    }
-}
-
-/// Whether the second caller's read is refused right after a part of the first caller's write.
-fn is_answered_between(journal: &Journal) -> bool {
-    if journal.len() != 8 {
-        return false;
-    }
-    let (part, read) = (journal.at(2), journal.at(3));
-    let is_parted = part.who == Who::Caller(0) && is_part(&part.event, 64);
-    is_parted && read.who == Who::Caller(1) && is_refused(&read.event, Errno::EAGAIN)
-}
-
-#[test]
-fn a_read_is_answered_between_the_parts_of_a_write(rt: HostRuntime) -> Result<(), Fail> {
-    let bytes = [b'a'; 200];
-    let write = Call::Write {
-        h: 0,
-        bytes: &bytes,
-    };
-    let port = play_between(&rt, rt.alloc(), &write)?;
-    let is_answered = is_answered_between(port.journal());
-    drop(port);
-    assert!(rt; is_answered);
     Ok(())
 }

@@ -1,12 +1,8 @@
-//! Numbers that go through a ring, and characters through a flip buffer, with both ends on one thread and on two, and
-//! seats that use a cell, as tests of what no clause says. Nothing stands on this crate.
+//! Numbers that go through a ring from one thread to another, and seats that use a cell on one thread and on two, as
+//! tests of what no clause says: that threads come to their end. Nothing stands on this crate.
 #![tactic(auto)]
 
 #[cfg(test)]
 mod cells;
 #[cfg(test)]
-mod characters;
-#[cfg(test)]
 mod numbers;
-#[cfg(test)]
-mod runs;

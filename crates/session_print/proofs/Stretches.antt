@@ -8,6 +8,7 @@ use Rattle.std.proofs.lemmas.List.{get_or-map, get_or-set_other, get_or_append_l
 use Rattle.std.proofs.lemmas.List.{get_or_past, length-map, length-append, map-append, map-set}
 use Rattle.std.proofs.Math.Seq.{get_or-append_seam}
 use Rattle.session_print.specs.declared.places.Stretch.{Stretch}
+use Rattle.session_print.specs.Sizes.{STEPS}
 use Rattle.session_print.specs.Printing.{PlainStretch, stretch_of, stretches_of, no_stretch, place_at, place_on}
 
 -- of an item that is set among others, what is looked up in it
@@ -46,45 +47,50 @@ one_more look items item none i k same =
     (cases_order i (length items))
 
 -- a step's stretch, and its place there, tell it from other steps
-same_step : (a b : ℕ) → ((a / 64 == b / 64) && (a % 64 == b % 64)) ≡ (a == b)
+same_step : (a b : ℕ) → ((a / STEPS == b / STEPS) && (a % STEPS == b % STEPS)) ≡ (a == b)
 same_step a b =
     elim (cases_eq a b) [
       | inl same ↦
-          ap (λ n. (a / 64 == n / 64) && (a % 64 == n % 64)) (sym same)
-          ∙ ap (λ x. x && (a % 64 == a % 64)) (eq-eqb (a / 64) (a / 64) refl)
-          ∙ eq-eqb (a % 64) (a % 64) refl
+          ap (λ n. (a / STEPS == n / STEPS) && (a % STEPS == n % STEPS)) (sym same)
+          ∙ ap (λ x. x && (a % STEPS == a % STEPS)) (eq-eqb (a / STEPS) (a / STEPS) refl)
+          ∙ eq-eqb (a % STEPS) (a % STEPS) refl
           ∙ sym (eq-eqb a b same)
-      | inr other ↦ elim (cases_eq (a / 64) (b / 64)) [
+      | inr other ↦ elim (cases_eq (a / STEPS) (b / STEPS)) [
         | inl same ↦
-            ap (λ x. x && (a % 64 == b % 64)) (eq-eqb (a / 64) (b / 64) same)
-            ∙ ne_eqb (a % 64) (b % 64) (λ e. other (omega (arith, same, e)))
+            ap (λ x. x && (a % STEPS == b % STEPS)) (eq-eqb (a / STEPS) (b / STEPS) same)
+            ∙ ne_eqb (a % STEPS) (b % STEPS) (λ e. other (omega (arith, same, e)))
             ∙ sym (ne_eqb a b other)
-        | inr apart ↦ ap (λ x. x && (a % 64 == b % 64)) (ne_eqb (a / 64) (b / 64) apart) ∙ sym (ne_eqb a b other)
+        | inr apart ↦
+            ap (λ x. x && (a % STEPS == b % STEPS)) (ne_eqb (a / STEPS) (b / STEPS) apart) ∙ sym (ne_eqb a b other)
       ]
     ]
 
 -- a place noted in its stretch of a row
-row_noted : (row : List PlainStretch) (new : PlainStretch) (step place : ℕ) → step / 64 < length row
-    → ((at : ℕ) → place_at new at ≡ cond (step % 64 == at) place (place_at (get_or row (step / 64) no_stretch) at))
-    → (at : ℕ) → place_on (set row (step / 64) new) at ≡ cond (step == at) place (place_on row at)
+row_noted : (row : List PlainStretch) (new : PlainStretch) (step place : ℕ)
+    → step / STEPS < length row
+    → ((at : ℕ)
+    → place_at new at ≡ cond (step % STEPS == at) place (place_at (get_or row (step / STEPS) no_stretch) at))
+    → (at : ℕ)
+    → place_on (set row (step / STEPS) new) at ≡ cond (step == at) place (place_on row at)
 row_noted row new step place within is at =
-    one_set place_at row new no_stretch (step / 64) (at / 64) (at % 64) place (step % 64 == at % 64) within
-    (is (at % 64))
+    one_set place_at row new no_stretch (step / STEPS) (at / STEPS) (at % STEPS) place (step % STEPS == at % STEPS)
+    within (is (at % STEPS))
     ∙ ap (λ b. cond b place (place_on row at)) (same_step step at)
 
 pub stretch_noted : (before row : List Stretch) (old new : Stretch) (step place : ℕ)
-    → step / 64 < length row
+    → step / STEPS < length row
     → ((at : ℕ) → place_on (stretches_of row) at ≡ place_on (stretches_of before) at)
-    → old ≡ get_or row (step / 64) old
-    → ((at : ℕ) → place_at (stretch_of new) at ≡ cond (step % 64 == at) place (place_at (stretch_of old) at))
+    → old ≡ get_or row (step / STEPS) old
+    → ((at : ℕ) → place_at (stretch_of new) at ≡ cond (step % STEPS == at) place (place_at (stretch_of old) at))
     → (at : ℕ)
-    → place_on (stretches_of (set row (step / 64) new)) at ≡ cond (step == at) place (place_on (stretches_of before) at)
+    → place_on (stretches_of (set row (step / STEPS) new)) at
+    ≡ cond (step == at) place (place_on (stretches_of before) at)
 stretch_noted before row old new step place within longer is put at =
-    let here : stretch_of old ≡ get_or (stretches_of row) (step / 64) no_stretch =
-    ap stretch_of is ∙ sym (get_or-map stretch_of row (step / 64) old no_stretch within) in
-    ap (λ ss. place_on ss at) (map-set stretch_of row (step / 64) new)
+    let here : stretch_of old ≡ get_or (stretches_of row) (step / STEPS) no_stretch =
+    ap stretch_of is ∙ sym (get_or-map stretch_of row (step / STEPS) old no_stretch within) in
+    ap (λ ss. place_on ss at) (map-set stretch_of row (step / STEPS) new)
     ∙ row_noted (stretches_of row) (stretch_of new) step place (rw length-map within)
-    (λ k. put k ∙ ap (λ s. cond (step % 64 == k) place (place_at s k)) here) at
+    (λ k. put k ∙ ap (λ s. cond (step % STEPS == k) place (place_at s k)) here) at
     ∙ ap (cond (step == at) place) (longer at)
 
 -- a stretch without a place
@@ -104,8 +110,8 @@ pub row_longer : (before row new : List Stretch) (added : Stretch)
 row_longer before row new added is empty longer at =
     ap (λ ss. place_on (stretches_of ss) at) is
     ∙ ap (λ ss. place_on ss at) (map-append stretch_of row (added ∷ []))
-    ∙ one_more place_at (stretches_of row) (stretch_of added) no_stretch (at / 64) (at % 64)
-    (ap (λ s. place_at s (at % 64)) empty ∙ empty_stretch added.first (at % 64))
+    ∙ one_more place_at (stretches_of row) (stretch_of added) no_stretch (at / STEPS) (at % STEPS)
+    (ap (λ s. place_at s (at % STEPS)) empty ∙ empty_stretch added.first (at % STEPS))
     ∙ longer at
 
 -- a place noted in its caller's row

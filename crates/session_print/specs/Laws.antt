@@ -16,7 +16,8 @@ AnswersEvery p session es =
 
 -- The line of a call that is told: it is the session's call of this caller and step, and the line has the name of the
 -- caller, the step, and the answer that these entries have for them.
-pub record IsLineOf (p : ℕ) (session : PlainSession) (es : List PlainEntry) (told : ToldCall) (line : List ℕ) : Type 0 where
+pub record IsLineOf (p : ℕ) (session : PlainSession) (es : List PlainEntry) (told : ToldCall)
+    (line : List ℕ) : Type 0 where
   pub caller : ℕ
   pub answer : PlainAnswer
   pub numbered : told.caller ≡ Some caller

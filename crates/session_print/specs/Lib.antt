@@ -4,5 +4,6 @@ pub mod Laws
 pub mod Lines
 pub mod Printing
 pub mod Report
+pub mod Sizes
 pub mod Summary
 pub mod Words

@@ -17,6 +17,7 @@ use Rattle.tty_calls.specs.Sessions.{PlainScript, script_of, number_in}
 use Rattle.session_print.specs.Words.{verb_of, answer_text}
 use Rattle.session_print.specs.Journals.{event_text, who_text}
 use Rattle.session_print.specs.Lines.{newline, flushed_count, dropped_count}
+use Rattle.session_print.specs.Sizes.{STEPS}
 use Rattle.session_print.specs.Report.{ToldCall, told_from, answer_of_event}
 use Rattle.session_print.specs.declared.answers.Answers.{Answers}
 use Rattle.session_print.specs.declared.fronts.Front.{Front}
@@ -33,7 +34,7 @@ fields_text (field ∷ fields) end = field.0.now ++ (decimal field.1 ++ fields_t
 abbrev pub same_turn : Turn → Turn → Bool
 same_turn a b = (a.caller == b.caller) && (a.step == b.step)
 
--- 64 steps of a caller: the places of the first `count` stand one behind the other, from `first` on, and a place in
+-- steps of a caller: the places of the first `count` stand one behind the other, from `first` on, and a place in
 -- the list stands over these
 pub record PlainStretch : Type 0 where
   pub first : ℕ
@@ -57,7 +58,7 @@ place_at s step =
     else slice_index s.list step
 
 abbrev pub place_on : List PlainStretch → ℕ → ℕ
-place_on row step = place_at (slice_index_or row (step / 64) no_stretch) (step % 64)
+place_on row step = place_at (slice_index_or row (step / STEPS) no_stretch) (step % STEPS)
 
 abbrev pub place_in : Places → ℕ → ℕ → ℕ
 place_in places c step = place_on (slice_index_or (map (λ row. stretches_of row.items) places.rows.items) c []) step

@@ -17,8 +17,7 @@ use std::alloc::{AllocError, Global};
 use tty_base::NoMemory;
 use tty_calls::{AnswerRef, Call, Calls, Names, Phase, PortRun, Script, Session};
 
-/// Adds a line for each call of a port that its journal answers, script by script, and gives the sums of
-/// the journal.
+/// Adds a line for each call of a port that its journal answers, script by script, and gives the sums of the journal.
 pub(crate) fn put_calls(
     alloc: Global,
     text: &mut String,

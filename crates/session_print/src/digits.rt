@@ -4,12 +4,13 @@ ghost use Rattle.std.specs.Prelude.{◌≡◌, ◌++◌, ◌+◌, ◌∷◌, [],
 ghost use Rattle.std.specs.Prelude.{decimal, length, slice_index, string_bytes, take};
 ghost use Rattle.hex.specs.Hex.{encode_lower, lower_digits};
 ghost use Rattle.session_print.specs.Printing.{tens};
+ghost use Rattle.session_print.specs.Sizes.{MOST_AT_ONCE};
 
 use std::alloc::AllocError;
 use std::str;
 
-/// How many bytes are turned into digits at a time.
-const PIECE: usize = 64;
+/// The most bytes whose digits are written at a time.
+const MOST_AT_ONCE: usize = 64;
 
 /// How many bytes the processor turns into digits at once.
 const EIGHT: usize = 8;
@@ -84,27 +85,27 @@ pub(crate) fn put_hex(text: &mut String, bytes: &[u8]) -> Result<(), AllocError>
     text.reserve(bytes.len().saturating_mul(2))?;
     let mut rest = bytes;
     while !rest.is_empty() {
-        let (piece, after) = rest.split_at(rest.len().min(PIECE));
+        let (piece, after) = rest.split_at(rest.len().min(MOST_AT_ONCE));
         put_piece(text, piece)?;
         rest = after;
     }
     Ok(())
 }
 
-/// Adds the digits of at most 64 bytes at once.
+/// Adds the digits of bytes, as many as are written at a time.
 pub(crate) fn put_piece(text: &mut String, bytes: &[u8]) -> Result<(), AllocError>
-    requires { length bytes.now ≤ 64 }
+    requires { length bytes.now ≤ MOST_AT_ONCE }
     ensures { OnOk result (string_bytes text.new ≡ string_bytes text.old ++ encode_lower bytes.now) }
 {
-    let mut digits = [0; 2 * PIECE];
+    let mut digits = [0; 2 * MOST_AT_ONCE];
     write_digits(bytes, &mut digits);
     text.push_str(first_digits(&digits, bytes))
 }
 
 /// Writes two digits for each byte, each to its place.
 #[inline(always)]
-fn write_digits(bytes: &[u8], digits: &mut [u8; 2 * PIECE])
-    requires { length bytes.now ≤ 64 }
+fn write_digits(bytes: &[u8], digits: &mut [u8; 2 * MOST_AT_ONCE])
+    requires { length bytes.now ≤ MOST_AT_ONCE }
     ensures { take (2 * length bytes.now) digits.new ≡ encode_lower bytes.now }
 {
     let count = bytes.len();
@@ -119,10 +120,10 @@ fn write_digits(bytes: &[u8], digits: &mut [u8; 2 * PIECE])
 
 /// Writes the digits of the bytes from a place up to another, where those of the bytes before stand.
 #[inline(always)]
-fn write_some(bytes: &[u8], from: usize, to: usize, digits: &mut [u8; 2 * PIECE])
+fn write_some(bytes: &[u8], from: usize, to: usize, digits: &mut [u8; 2 * MOST_AT_ONCE])
     requires order { from ≤ to }
     requires within { to ≤ length bytes.now }
-    requires few { length bytes.now ≤ 64 }
+    requires few { length bytes.now ≤ MOST_AT_ONCE }
     requires before { take (2 * from) digits.old ≡ encode_lower (take from bytes.now) }
     ensures { take (2 * to) digits.new ≡ encode_lower (take to bytes.now) }
 {
@@ -135,8 +136,8 @@ fn write_some(bytes: &[u8], from: usize, to: usize, digits: &mut [u8; 2 * PIECE]
 
 /// The text of the digits that were written for these bytes.
 #[inline(always)]
-fn first_digits<'a>(digits: &'a [u8; 2 * PIECE], bytes: &[u8]) -> &'a str
-    requires few { length bytes.now ≤ 64 }
+fn first_digits<'a>(digits: &'a [u8; 2 * MOST_AT_ONCE], bytes: &[u8]) -> &'a str
+    requires few { length bytes.now ≤ MOST_AT_ONCE }
     requires written { take (2 * length bytes.now) digits.now ≡ encode_lower bytes.now }
     ensures { result.now ≡ encode_lower bytes.now }
 {

@@ -1,5 +1,4 @@
-//! What follows from the definitions alone: where a run answers every call of a port, the report has one line for
-//! each.
+//! What follows from the definitions alone: where a run answers every call of a port, the report has one line for each.
 
 ghost use Rattle.std.specs.Prelude.{ℕ};
 ghost use Rattle.tty_calls.specs.Sessions.{PlainSession};

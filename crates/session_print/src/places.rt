@@ -4,6 +4,7 @@ ghost use Rattle.std.specs.Prelude.{◌≡◌, ℕ, ◌<◌, OnOk, if◌then◌e
 ghost use Rattle.std.specs.Option.{option_map};
 ghost use Rattle.tty_calls.specs.Plain.{entry_of};
 ghost use Rattle.session_print.specs.Printing.{same_turn, stretch_of, stretches_of, place_at};
+ghost use Rattle.session_print.specs.Sizes.{STEPS};
 ghost use Rattle.session_print.specs.Printing.{place_on as place_by_row, place_in, entry_at as entry_by_place};
 
 use std::alloc::{AllocError, Global};
@@ -19,8 +20,7 @@ pub(crate) struct Turn {
     pub(crate) step: usize,
 }
 
-/// The entry at a place of a journal. A place is how many entries there are up to it, with its own; at
-/// 0 there is none.
+/// The entry at a place of a journal. A place is how many entries there are up to it, with its own; at 0 there is none.
 #[inline(always)]
 pub(crate) fn entry_at(journal: &Journal, place: usize) -> Option<Entry<'_>>
     ensures { option_map entry_of result ≡ entry_by_place journal.now.items place }
@@ -31,15 +31,14 @@ pub(crate) fn entry_at(journal: &Journal, place: usize) -> Option<Entry<'_>>
     journal.get(place - 1)
 }
 
-/// Places in a journal: for each caller a row, with a stretch for each 64 steps. Of a run these are no
-/// more than its session has calls. A stretch takes 32 bytes, and only where callers mix four more for
-/// each of its steps.
+/// Places in a journal: for each caller a row of stretches. Of a run these are no more than its session has calls. A
+/// stretch takes 32 bytes, and only where callers mix four more for each of its steps.
 #[derive(Drop)]
 pub(crate) struct Places {
     rows: Vec<Vec<Stretch>>,
 }
 
-/// The places of 64 steps of a caller. Those of the first `count` stand one behind the other, from
+/// The places of some steps of a caller. Those of the first `count` stand one behind the other, from
 /// `first` on. A place in the list, where it is not 0, stands over these.
 #[derive(Drop)]
 struct Stretch {
@@ -133,7 +132,7 @@ impl Stretch {
     #[inline(always)]
     fn note(&mut self, step: usize, place: u32) -> Result<(), AllocError>
         requires some { 0 < place }
-        requires within { step < 64 }
+        requires within { step < STEPS }
         ensures { OnOk result ((at : ℕ)
             → place_at (stretch_of self.new) at ≡ if step == at then place else place_at (stretch_of self.old) at) }
     {

@@ -7,8 +7,7 @@ ghost use Rattle.session_print.specs.Lines.{flushed_in as flushed_by, dropped_in
 use tty_base::{Flagged, NoMemory};
 use tty_calls::Event;
 
-/// How many characters a journal flushes, and how many were dropped beside its answers and at its
-/// hangup.
+/// How many characters a journal flushes, and how many were dropped beside its answers and at its hangup.
 #[derive(Clone, Copy)]
 pub(crate) struct Sums {
     pub(crate) flushed: u64,
@@ -16,8 +15,7 @@ pub(crate) struct Sums {
 }
 
 impl Sums {
-    /// Adds what an event flushes, and what is dropped with it. More than can be counted is want of
-    /// memory.
+    /// Adds what an event flushes, and what is dropped with it. More than can be counted is want of memory.
     #[inline(always)]
     pub(crate) fn add(&mut self, event: &Event) -> Result<(), NoMemory>
         ensures flushed { OnOk result (self.new.flushed ≡ self.old.flushed + flushed_by (event_of event.now)) }

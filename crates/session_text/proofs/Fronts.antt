@@ -18,7 +18,8 @@ use Rattle.session_text.specs.Refusals.{next_line, lines_in}
 use Rattle.session_text.specs.Reading.{PlainReading, first_reading, reading_after_item}
 use Rattle.session_text.specs.Reading.{reading_after_line, session_at_end}
 use Rattle.session_text.specs.Fronts.{PlainFront, front_at, then_front, front_from, front_in}
-use Rattle.session_text.specs.Grammar.{WrittenItem, Written, item_words, session_items, session_meaning, ports_of, IsWellWritten}
+use Rattle.session_text.specs.Grammar.{WrittenItem, Written, item_words, session_items}
+use Rattle.session_text.specs.Grammar.{session_meaning, ports_of, IsWellWritten}
 use Rattle.session_text.proofs.Judged.{word_found}
 use Rattle.session_text.proofs.Runs.{Run, session_read, item_with, ended_run}
 use Rattle.session_text.proofs.Heads.{run_written, written_taken, ports_few}
@@ -180,7 +181,8 @@ ended_place place.Clock h = cc
 ended_place place.Caller h = cc
 ended_place place.Ended h = refl
 
-record FrontBack (r : PlainReading) (n : ℕ) (lines : List Line) (items : List WrittenItem) (rest : List Line) : Type 0 where
+record FrontBack (r : PlainReading) (n : ℕ) (lines : List Line) (items : List WrittenItem)
+    (rest : List Line) : Type 0 where
   front : PlainFront
   is : front_from r n lines ≡ Ok front
   session : front.session ≡ session_read r.stand r.draft items
@@ -309,7 +311,9 @@ front_spelled text front h =
     let is = run_written read.items read.run in
     let taken = written_taken is.written is.good in record {
       written = is.written;
-      words = read.words ∙ ap (λ (items : List WrittenItem). map item_words items ++ filter says front.rest) is.items_are;
+      words =
+          read.words
+          ∙ ap (λ (items : List WrittenItem). map item_words items ++ filter says front.rest) is.items_are;
       good = is.good;
       means = read.session ∙ ap (session_read first_reading.stand first_reading.draft) is.items_are ∙ taken.meant;
     }

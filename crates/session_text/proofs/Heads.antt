@@ -144,7 +144,10 @@ past_before at e = subst (λ (p : ItemPlace). is_start p ≡ false) (sym e) refl
 not_ended : (s : PlainStand) → s.place ≡ place.Before → Run s [] → ⊥
 not_ended s at run = let ended = subst (λ (p : ItemPlace). is_ended p ≡ true) at run in cc
 
-pub head_follows : (items : List WrittenItem) (s : PlainStand) → s.place ≡ place.Before → Run s items → HeadFollows s items
+pub head_follows : (items : List WrittenItem) (s : PlainStand)
+    → s.place ≡ place.Before
+    → Run s items
+    → HeadFollows s items
 head_follows [] s at run = absurd (not_ended s at run)
 head_follows (item ∷ items) s at run =
     let fits = good_fits s (verb_text item.verb) item.arguments item.verb (past_before s.place at) run.0 in
@@ -362,7 +365,8 @@ written_from version ports good_version good_ports items f = record {
         let few = f.head.few_ticks p in
         let most = left_at_most MOST_PORTS MOST_TICKS p in omega (arith, few, most);
   };
-  items_are = ap (λ (xs : List WrittenItem). item_with Session (version ∷ []) ∷ item_with Ports (ports ∷ []) ∷ xs) f.items_are;
+  items_are =
+      ap (λ (xs : List WrittenItem). item_with Session (version ∷ []) ∷ item_with Ports (ports ∷ []) ∷ xs) f.items_are;
 }
 
 -- after the header nothing but `ports` may stand

@@ -201,7 +201,8 @@ start_found s word arguments found h =
     let both = and_parts (bytes_eq word (codes "tty-session")) (is_good s.ports Session arguments) parts.0 in
     ((bytes_eq-Decides word (codes "tty-session")).0 both.0, both.1, parts.1)
 
-word_found_at : (s : PlainStand) (at : ItemPlace) (word : List ℕ) (arguments : List (List ℕ)) (found : Verb) (start : Bool)
+word_found_at : (s : PlainStand) (at : ItemPlace) (word : List ℕ) (arguments : List (List ℕ)) (found : Verb)
+    (start : Bool)
     → is_start at ≡ start
     → verdict_at s at word arguments ≡ Ok found
     → word ≡ verb_text found

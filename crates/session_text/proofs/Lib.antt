@@ -1,5 +1,6 @@
 mod Added
 mod Bounds
+mod CallerNames
 mod Fits
 mod FirstWords
 pub mod Fronts

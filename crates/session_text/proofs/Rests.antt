@@ -40,7 +40,8 @@ opening_at other = Session
 abbrev pub after_item : PlainStand → WrittenItem → PlainStand
 after_item s item = stand_after s item.verb item.arguments
 
-pub record Rest (s : PlainStand) (own : List WrittenItem) (blocks : List WrittenBlock) (phases : List (List WrittenBlock)) : Type 0 where
+pub record Rest (s : PlainStand) (own : List WrittenItem) (blocks : List WrittenBlock)
+    (phases : List (List WrittenBlock)) : Type 0 where
   pub own_good : AllByRecursion (IsGoodItem s.ports (opening_at s.place)) own
   pub blocks_good : AllByRecursion (IsGoodBlock s.ports) blocks
   pub lines_once : Once s.lines (line_ports blocks)
@@ -94,7 +95,8 @@ caller_is place.Ended h = cc
 -- ---- one item more of the open block
 
 is_step_inside : (at : ItemPlace) (verb : LineVerb) → is_line at ≡ true → is_inside (opening_at at) (Step verb) ≡ true
-is_step_inside at verb h = subst (λ (p : ItemPlace). is_inside (opening_at p) (Step verb) ≡ true) (sym (line_is at h)) refl
+is_step_inside at verb h =
+    subst (λ (p : ItemPlace). is_inside (opening_at p) (Step verb) ≡ true) (sym (line_is at h)) refl
 
 is_tick_inside : (at : ItemPlace) → is_clock at ≡ true → is_inside (opening_at at) Tick ≡ true
 is_tick_inside at h = subst (λ (p : ItemPlace). is_inside (opening_at p) Tick ≡ true) (sym (clock_is at h)) refl
@@ -129,7 +131,8 @@ abbrev pub ticks_rest : List WrittenBlock → List (List WrittenBlock) → ℕ �
 ticks_rest blocks phases p = ticks_count p blocks + sum_by (ticks_count p) phases
 
 -- ..  a line's item
-pub step_before : (s : PlainStand) (verb : LineVerb) (arguments : List (List ℕ)) (own : List WrittenItem) (blocks : List WrittenBlock)
+pub step_before : (s : PlainStand) (verb : LineVerb) (arguments : List (List ℕ)) (own : List WrittenItem)
+    (blocks : List WrittenBlock)
     (phases : List (List WrittenBlock))
     → Fits s (Step verb) arguments
     → Rest (stand_after s (Step verb) arguments) own blocks phases
@@ -159,7 +162,8 @@ step_before s verb arguments own blocks phases fits r =
           (slice_index s.ticks_left) (let e = ticks_more item own 0 refl in omega (arith, e)) r.few_ticks;
     }
 
-pub step_after : (s : PlainStand) (verb : LineVerb) (arguments : List (List ℕ)) (own : List WrittenItem) (blocks : List WrittenBlock)
+pub step_after : (s : PlainStand) (verb : LineVerb) (arguments : List (List ℕ)) (own : List WrittenItem)
+    (blocks : List WrittenBlock)
     (phases : List (List WrittenBlock))
     → may_stand (Step verb) s.place ≡ true
     → Rest s (record { verb = Step verb; arguments = arguments } ∷ own) blocks phases
@@ -261,7 +265,8 @@ tick_after s arguments own blocks phases at r =
     )
 
 -- .. a call
-pub call_before : (s : PlainStand) (verb : CallVerb) (arguments : List (List ℕ)) (own : List WrittenItem) (blocks : List WrittenBlock)
+pub call_before : (s : PlainStand) (verb : CallVerb) (arguments : List (List ℕ)) (own : List WrittenItem)
+    (blocks : List WrittenBlock)
     (phases : List (List WrittenBlock))
     → Fits s (Call verb) arguments
     → Rest (stand_after s (Call verb) arguments) own blocks phases
@@ -286,7 +291,8 @@ call_before s verb arguments own blocks phases fits r =
           (slice_index s.ticks_left) (let e = ticks_more item own 0 refl in omega (arith, e)) r.few_ticks;
     }
 
-pub call_after : (s : PlainStand) (verb : CallVerb) (arguments : List (List ℕ)) (own : List WrittenItem) (blocks : List WrittenBlock)
+pub call_after : (s : PlainStand) (verb : CallVerb) (arguments : List (List ℕ)) (own : List WrittenItem)
+    (blocks : List WrittenBlock)
     (phases : List (List WrittenBlock))
     → may_stand (Call verb) s.place ≡ true
     → Rest s (record { verb = Call verb; arguments = arguments } ∷ own) blocks phases
@@ -346,7 +352,8 @@ own_none port rest left h p = let none = none_on (port == p) 0 refl in omega (ar
 none_own : (port : ℕ) (rest left : ℕ → ℕ) → ((p : ℕ) → on_port port p 0 + rest p ≤ left p) → (p : ℕ) → rest p ≤ left p
 none_own port rest left h p = let none = none_on (port == p) 0 refl in omega (arith, h p, none)
 
-characters_before : (block : WrittenBlock) (blocks : List WrittenBlock) (phases : List (List WrittenBlock)) (old port : ℕ) (left : List ℕ)
+characters_before : (block : WrittenBlock) (blocks : List WrittenBlock) (phases : List (List WrittenBlock))
+    (old port : ℕ) (left : List ℕ)
     → port_of block ≡ port
     → ((p : ℕ) → on_port port p (sum_by arrivals_by block.items) + characters_rest blocks phases p ≤ slice_index left p)
     → (p : ℕ)
@@ -355,7 +362,8 @@ characters_before block blocks phases old port left e h =
     own_none old (characters_rest (block ∷ blocks) phases) (slice_index left)
     (λ p. let more = characters_more block blocks phases port p e in omega (arith, h p, more))
 
-characters_after : (block : WrittenBlock) (blocks : List WrittenBlock) (phases : List (List WrittenBlock)) (old port : ℕ) (left : List ℕ)
+characters_after : (block : WrittenBlock) (blocks : List WrittenBlock) (phases : List (List WrittenBlock))
+    (old port : ℕ) (left : List ℕ)
     → port_of block ≡ port
     → ((p : ℕ) → on_port old p 0 + characters_rest (block ∷ blocks) phases p ≤ slice_index left p)
     → (p : ℕ)
@@ -365,7 +373,8 @@ characters_after block blocks phases old port left e h p =
     let all = none_own old (characters_rest (block ∷ blocks) phases) (slice_index left) h p in
     omega (arith, all, more)
 
-ticks_before : (block : WrittenBlock) (blocks : List WrittenBlock) (phases : List (List WrittenBlock)) (old port : ℕ) (left : List ℕ)
+ticks_before : (block : WrittenBlock) (blocks : List WrittenBlock) (phases : List (List WrittenBlock)) (old port : ℕ)
+    (left : List ℕ)
     → port_of block ≡ port
     → ((p : ℕ) → on_port port p (sum_by ticks_by block.items) + ticks_rest blocks phases p ≤ slice_index left p)
     → (p : ℕ)
@@ -374,7 +383,8 @@ ticks_before block blocks phases old port left e h =
     own_none old (ticks_rest (block ∷ blocks) phases) (slice_index left)
     (λ p. let more = block_ticks_more block blocks phases port p e in omega (arith, h p, more))
 
-ticks_after : (block : WrittenBlock) (blocks : List WrittenBlock) (phases : List (List WrittenBlock)) (old port : ℕ) (left : List ℕ)
+ticks_after : (block : WrittenBlock) (blocks : List WrittenBlock) (phases : List (List WrittenBlock)) (old port : ℕ)
+    (left : List ℕ)
     → port_of block ≡ port
     → ((p : ℕ) → on_port old p 0 + ticks_rest (block ∷ blocks) phases p ≤ slice_index left p)
     → (p : ℕ)
@@ -534,7 +544,8 @@ caller_after s arguments items blocks phases at r =
 
 -- ---- one phase more
 
-pub phase_before : (s : PlainStand) (arguments : List (List ℕ)) (blocks : List WrittenBlock) (phases : List (List WrittenBlock))
+pub phase_before : (s : PlainStand) (arguments : List (List ℕ)) (blocks : List WrittenBlock)
+    (phases : List (List WrittenBlock))
     → Fits s Phase arguments → Rest (stand_after s Phase arguments) [] blocks phases → Rest s [] [] (blocks ∷ phases)
 phase_before s arguments blocks phases fits r =
     let some = above_zero s.phases_left fits.within in record {

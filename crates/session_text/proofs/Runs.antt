@@ -20,7 +20,8 @@ use Rattle.session_text.specs.Stands.{PlainStand, verdict_on, stand_after, in_ph
 use Rattle.session_text.specs.Stands.{is_ended, is_line, is_clock, is_caller, may_stand, is_good}
 use Rattle.session_text.specs.Meaning.{steps_in, call_in, empty_phase, with_steps, with_ticks, with_script}
 use Rattle.session_text.specs.Drafts.{PlainDraft, draft_after, session_with, with_call}
-use Rattle.session_text.specs.Grammar.{WrittenItem, WrittenBlock, block_items, phase_item, phase_items, end_item, steps_by}
+use Rattle.session_text.specs.Grammar.{WrittenItem, WrittenBlock, block_items, phase_item}
+use Rattle.session_text.specs.Grammar.{phase_items, end_item, steps_by}
 use Rattle.session_text.specs.Grammar.{calls_by, with_block, phase_meaning, is_inside, opens_block, IsGoodItem}
 use Rattle.session_text.proofs.Rests.{Fits, opening_at, Rest, rest_items, block_with, step_before, step_after}
 use Rattle.session_text.proofs.Rests.{tick_before, tick_after, call_before, call_after, line_before}
@@ -125,7 +126,8 @@ pub phase_items_more : (blocks : List WrittenBlock) (phases : List (List Written
 phase_items_more blocks phases = ap (λ (xs : List WrittenItem). phase_item ∷ xs)
     (append_assoc (flat_map block_items blocks) (flat_map phase_items phases) (end_item ∷ []))
 
-block_items_more : (opening : WrittenItem) (items : List WrittenItem) (blocks : List WrittenBlock) (phases : List (List WrittenBlock))
+block_items_more : (opening : WrittenItem) (items : List WrittenItem) (blocks : List WrittenBlock)
+    (phases : List (List WrittenBlock))
     → rest_items [] (record { opening = opening; items = items } ∷ blocks) phases
     ≡ opening ∷ rest_items items blocks phases
 block_items_more opening items blocks phases =
@@ -135,7 +137,8 @@ block_items_more opening items blocks phases =
 abbrev pub item_with : Verb → List (List ℕ) → WrittenItem
 item_with verb arguments = record { verb = verb; arguments = arguments }
 
-block_follows : (s : PlainStand) (verb : Verb) (arguments : List (List ℕ)) (items own : List WrittenItem) (blocks : List WrittenBlock)
+block_follows : (s : PlainStand) (verb : Verb) (arguments : List (List ℕ)) (items own : List WrittenItem)
+    (blocks : List WrittenBlock)
     (phases : List (List WrittenBlock))
     → Rest s [] (block_with verb arguments own ∷ blocks) phases
     → items ≡ rest_items own blocks phases
@@ -150,7 +153,8 @@ block_follows s verb arguments items own blocks phases rest same = record {
       ∙ sym (block_items_more (item_with verb arguments) own blocks phases);
 }
 
-own_follows : (s : PlainStand) (item : WrittenItem) (items own : List WrittenItem) (blocks : List WrittenBlock) (phases : List (List WrittenBlock))
+own_follows : (s : PlainStand) (item : WrittenItem) (items own : List WrittenItem) (blocks : List WrittenBlock)
+    (phases : List (List WrittenBlock))
     → Rest s (item ∷ own) blocks phases
     → items ≡ rest_items own blocks phases
     → Follows s (item ∷ items)
@@ -252,7 +256,13 @@ run_follows (item ∷ items) s at run =
 -- ---- a rest is taken, and read as what it means
 
 -- the session of a rest: its head, the phases before, the open phase with what is added to it, and the further phases
-abbrev pub rest_meant : PlainStand → List ℕ → List PlainPhase → PlainPhase → List WrittenItem → List WrittenBlock → List (List WrittenBlock)
+abbrev pub rest_meant : PlainStand
+    → List ℕ
+    → List PlainPhase
+    → PlainPhase
+    → List WrittenItem
+    → List WrittenBlock
+    → List (List WrittenBlock)
     → PlainSession
 rest_meant s flips done phase own blocks phases = record {
   version = s.version;
@@ -264,7 +274,12 @@ rest_meant s flips done phase own blocks phases = record {
 abbrev pub draft_with : List ℕ → List PlainPhase → PlainPhase → PlainDraft
 draft_with flips done phase = record { flips = flips; phases = done; open_phase = Some phase }
 
-abbrev pub Meant : PlainStand → List WrittenItem → List WrittenItem → List WrittenBlock → List (List WrittenBlock) → Type 0
+abbrev pub Meant : PlainStand
+    → List WrittenItem
+    → List WrittenItem
+    → List WrittenBlock
+    → List (List WrittenBlock)
+    → Type 0
 Meant s items own blocks phases =
     (flips : List ℕ) (done : List PlainPhase) (phase : PlainPhase)
     → session_read s (draft_with flips done phase) items ≡ rest_meant s flips done phase own blocks phases
@@ -366,7 +381,8 @@ call_added at port verb arguments own phase e =
     (calls_more (call_in verb arguments) (flat_map calls_by own) phase.callers))
 
 -- the rest's session at an equal open phase
-meant_at : (s : PlainStand) (flips : List ℕ) (done : List PlainPhase) (blocks : List WrittenBlock) (phases : List (List WrittenBlock))
+meant_at : (s : PlainStand) (flips : List ℕ) (done : List PlainPhase) (blocks : List WrittenBlock)
+    (phases : List (List WrittenBlock))
     (one other : PlainPhase)
     → one ≡ other
     → (let r : PlainSession = record {
@@ -537,7 +553,9 @@ head_is x y xs ys e = cc
 tail_is : {X : Type 0} (x y : X) (xs ys : List X) → x ∷ xs ≡ y ∷ ys → xs ≡ ys
 tail_is x y xs ys e = cc
 
-no_rest : (own : List WrittenItem) (blocks : List WrittenBlock) (phases : List (List WrittenBlock)) → [] ≡ rest_items own blocks phases → ⊥
+no_rest : (own : List WrittenItem) (blocks : List WrittenBlock) (phases : List (List WrittenBlock))
+    → [] ≡ rest_items own blocks phases
+    → ⊥
 no_rest (item ∷ own) blocks phases e = cc
 no_rest [] (block ∷ blocks) phases e = cc
 no_rest [] [] (blocks ∷ phases) e = cc

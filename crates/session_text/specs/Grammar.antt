@@ -232,8 +232,7 @@ pub record IsWellWritten (w : Written) : Type 0 where
   pub few_characters : (port : ℕ) → sum_by (characters_count port) w.phases ≤ MOST_ARRIVALS
   pub few_ticks : (port : ℕ) → sum_by (ticks_count port) w.phases ≤ MOST_TICKS
 
--- The text spells the session: the lines that say something are the items of a good written session that
--- means it.
+-- The text spells the session: the lines that say something are the items of a good written session that means it.
 pub record Spells (text : List ℕ) (session : PlainSession) : Type 0 where
   pub written : Written
   pub words : filter says (lines_in text) ≡ map item_words (session_items written)

@@ -24,6 +24,10 @@ pub record RefusedRow : Type 0 where
 abbrev pub refused_at : ℕ → Reason → List ℕ → RefusedRow
 refused_at line reason text = record { text = text; line = record { line = line; reason = reason } }
 
+-- a text that begins well, with two ports; the next line is its third
+abbrev pub two_ports_with : List ℕ → List ℕ
+two_ports_with more = codes "tty-session 1\nports 2\n" ++ more
+
 abbrev pub refused_rows : List RefusedRow
 refused_rows =
     -- no bytes, and comments alone

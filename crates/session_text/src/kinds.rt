@@ -71,8 +71,7 @@ fn call_may_have(verb: CallVerb, count: usize) -> bool
     }
 }
 
-/// The kind of an item's argument at a place, counted from 0. Of an item without arguments any kind
-/// may be said.
+/// The kind of an item's argument at a place, counted from 0. Of an item without arguments any kind may be said.
 #[inline(always)]
 pub(crate) fn kind_at(verb: Verb, place: usize) -> ArgumentKind
     ensures { result ≡ kind_at verb place }
@@ -148,8 +147,7 @@ fn call_kind(verb: CallVerb, place: usize) -> ArgumentKind
     }
 }
 
-/// What is wrong with the first wrong argument, if one is. So many of the arguments behind the second
-/// are mode words.
+/// What is wrong with the first wrong argument, if one is. So many of the arguments behind the second are mode words.
 #[inline(always)]
 pub(crate) fn fault_in(ports: u8, verb: Verb, arguments: &Arguments, modes: usize) -> Option<Reason>
     requires { modes ≡ length (modes_in arguments.now) }

@@ -28,8 +28,7 @@ pub fn spelled_sessions_are_within_limits()
     ensures { (text : List ℕ) (session : PlainSession) → Spells text session → IsWithinLimits session }
 {}
 
-/// A law: a session that a text spells has what words write: a name for each caller, bytes that arrive, and mode
-/// words.
+/// A law: a session that a text spells has what words write: a name for each caller, bytes that arrive, and mode words.
 pub fn spelled_sessions_are_written_in_words()
     ensures { (text : List ℕ) (session : PlainSession)
         → Spells text session

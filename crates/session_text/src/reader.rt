@@ -291,11 +291,13 @@ fn read_session(alloc: Global, text: &[u8]) -> Result<Session, TextFault>
     reader.read_lines(alloc, text)
 }
 
-/// The session that the front of a text spells, up to its `end`; the number of the line after that, and
-/// what follows.
+/// The session that the front of a text spells, up to its `end`; the number of the line after that, and what follows.
 pub fn parse_front(alloc: Global, text: &[u8]) -> Result<(Session, u32, &[u8]), TextFault>
-    ensures { GivesRead (λ front. record { session = session_view front.0; line = front.1; rest = lines_in front.2.now })
-        result (front_in text.now) }
+    ensures { GivesRead (λ front. record {
+      session = session_view front.0;
+      line = front.1;
+      rest = lines_in front.2.now;
+    }) result (front_in text.now) }
 {
     let mut reader = Reader::new(alloc);
     reader.read_front(alloc, text)

@@ -166,8 +166,7 @@ impl Stand {
         }
     }
 
-    /// What is wrong with an item, if something is. Most are calls: these are judged here, and the
-    /// others apart.
+    /// What is wrong with an item, if something is. Most are calls: these are judged here, and the others apart.
     #[inline(always)]
     fn item_fault(&self, verb: Verb, arguments: &Arguments, modes: usize) -> Option<Reason>
         requires { modes ≡ length (modes_in arguments.now) }

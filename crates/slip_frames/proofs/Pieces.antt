@@ -61,7 +61,8 @@ pub rest_ended : (list : List Flagged) (c : Flagged) → is_end c ≡ true → r
 rest_ended [] c e = rw e refl
 rest_ended (d ∷ list) c e =
     elim (is_end d)
-    as (λ t. cond t (rest_of (list ++ c ∷ [])) (rest_with d (pieces (list ++ c ∷ [])) (rest_of (list ++ c ∷ []))) ≡ []) [
+    as (λ t.
+    cond t (rest_of (list ++ c ∷ [])) (rest_with d (pieces (list ++ c ∷ [])) (rest_of (list ++ c ∷ []))) ≡ []) [
       | true ↦ rest_ended list c e
       | false ↦
           ap (λ (ps : List (List Flagged)). rest_with d ps (rest_of (list ++ c ∷ []))) (pieces_ended list c e)

@@ -1,3 +1,4 @@
 pub mod Lines
 pub mod Parted
+pub mod Sizes
 pub mod Values

@@ -3,6 +3,7 @@
 ghost use Rattle.std.specs.Prelude.{◌≡◌, ◌==◌, ◌%◌, ◌*◌, ◌+◌, ◌++◌, ℕ, IsTrue, Some, length, IfOk, OnOk, OnErr};
 ghost use Rattle.std.specs.List.{list_all};
 ghost use Rattle.hex.specs.Hex.{hex_digit_value, is_hex_digit};
+ghost use Rattle.text_lines.specs.Sizes.{ROW};
 ghost use Rattle.text_lines.specs.Values.{is_hex, bytes_of as bytes_written};
 
 use std::alloc::Global;
@@ -141,7 +142,7 @@ fn bytes_by_rows(alloc: Global, word: &[u8]) -> Result<Vec<u8>, NoMemory>
 
 fn add_row(bytes: &mut Vec<u8>, digits: &[u8]) -> Result<(), NoMemory>
     requires digits { IsTrue (list_all is_hex_digit digits.now) }
-    requires room { length digits.now ≡ 512 }
+    requires room { length digits.now ≡ 2 * ROW }
     ensures { OnOk result (bytes.new.items ≡ bytes.old.items ++ bytes_written digits.now) }
 {
     let mut row = [0; ROW];

@@ -2,7 +2,7 @@
 //! entry and with overruns. What is told is read from a text.
 
 use check_text::parse_check;
-use session_print::{each_call_has_its_line, journal_text, play_text, report};
+use session_print::{journal_text, report};
 use session_text::TextFault;
 use std::alloc::Global;
 use tty_base::{Buffer, Bytes, Counts, NoMemory, Signal};
@@ -12,8 +12,6 @@ use tty_calls::{PortEnd, PortRun, Session};
 #[derive(Clone, Copy)]
 enum How {
     Report,
-    /// The report, with the journals before its end.
-    Play,
     Journals,
 }
 
@@ -96,7 +94,8 @@ journal 0 0
 overruns 0 0
 line 0 0 0 0
 journal 1 9
-all_1 0 0 0 answer icrnl ixon opost onlcr isig icanon echo echoe echok echoke echoctl iexten intr=3 quit=28 erase=127 kill=21 eof=4 time=0 min=1 start=17 stop=19 susp=26 eol=0 reprint=18 werase=23 lnext=22 eol2=0
+all_1 0 0 0 answer icrnl ixon opost onlcr isig icanon echo echoe echok echoke echoctl iexten \
+intr=3 quit=28 erase=127 kill=21 eof=4 time=0 min=1 start=17 stop=19 susp=26 eol=0 reprint=18 werase=23 lnext=22 eol2=0
 all_1 1 0 0 answer mark=1 parity=2 frame=3 break=4 cut=5 echo=6 pin=7 pout=8 pbad=9 pfull=10
 all_1 2 0 0 answer 4294967295
 all_1 3 0 0 answer 5
@@ -111,7 +110,8 @@ done
 ",
     is_busy: false,
     how: How::Report,
-    told: "1.all_1.0 getm icrnl ixon opost onlcr isig icanon echo echoe echok echoke echoctl iexten intr=3 quit=28 erase=127 kill=21 eof=4 time=0 min=1 start=17 stop=19 susp=26 eol=0 reprint=18 werase=23 lnext=22 eol2=0
+    told: "1.all_1.0 getm icrnl ixon opost onlcr isig icanon echo echoe echok echoke echoctl iexten \
+intr=3 quit=28 erase=127 kill=21 eof=4 time=0 min=1 start=17 stop=19 susp=26 eol=0 reprint=18 werase=23 lnext=22 eol2=0
 1.all_1.1 counts mark=1 parity=2 frame=3 break=4 cut=5 echo=6 pin=7 pout=8 pbad=9 pfull=10
 1.all_1.2 inq 4294967295
 1.all_1.3 write 5
@@ -132,73 +132,6 @@ port 1 counts mark=0 parity=0 frame=0 break=0 cut=0 echo=0 pin=0 pout=0 pbad=0 p
 port 1 signals -
 port 1 generation 0
 port 1 wire -
-done
-",
-};
-
-/// One caller, who opens a port, makes it raw, reads three bytes and closes it.
-const THREE_BYTES: Row = Row {
-    play: "tty-session 1
-ports 1
-phase
-caller a 0
-open 0 rw nonblock
-modes 0 now raw
-phase
-caller a 0
-read 0 64
-close 0
-end
-journals
-journal 0 14
-*line 0 0 0 line_end 0
-a 0 0 0 answer ok
-a 1 0 0 answer ok
-a 2 0 0 caller_end
-*clock 0 0 0 clock_end
-*session 0 0 0 phase_end
-*flush 0 0 0 flush n68n69n0a
-*line 1 0 0 line_end 3
-a 2 0 0 answer 3 68690a
-a 3 0 0 answer ok
-a 4 0 1 caller_end
-*clock 1 0 1 clock_end
-*session 1 0 1 phase_end
-*session 2 0 1 hangup -
-overruns 0 0
-line 0 3 0 3
-done
-",
-    is_busy: false,
-    how: How::Play,
-    told: "0.a.0 open ok
-0.a.1 modes ok
-0.a.2 read 3 68690a
-0.a.3 close ok
-port 0 line arrived=3 lost=0 sent=3 overrun=0
-port 0 input taken=3 dropped=0
-port 0 counts mark=0 parity=0 frame=0 break=0 cut=0 echo=0 pin=0 pout=0 pbad=0 pfull=0
-port 0 signals -
-port 0 generation 0
-port 0 wire -
-journals
-journal 0 14
-*line 0 0 0 line_end 0
-a 0 0 0 answer ok
-a 1 0 0 answer ok
-a 2 0 0 caller_end
-*clock 0 0 0 clock_end
-*session 0 0 0 phase_end
-*flush 0 0 0 flush n68n69n0a
-*line 1 0 0 line_end 3
-a 2 0 0 answer 3 68690a
-a 3 0 0 answer ok
-a 4 0 1 caller_end
-*clock 1 0 1 clock_end
-*session 1 0 1 phase_end
-*session 2 0 1 hangup -
-overruns 0 0
-line 0 3 0 3
 done
 ",
 };
@@ -276,7 +209,6 @@ fn told_of(
 ) -> Result<Bytes, NoMemory> {
     match how {
         How::Report => report(alloc, session, runs, ends),
-        How::Play => play_text(alloc, Bytes::new(alloc), session, runs, ends, true),
         How::Journals => journal_text(alloc, session, runs),
     }
 }
@@ -313,8 +245,7 @@ fn is_told(alloc: Global, row: &Row) -> Result<bool, TextFault> {
 
 #[test]
 fn plays_are_told_by_reports_and_journals(rt: HostRuntime) {
-    each_call_has_its_line();
-    for row in [TWO_CALLERS, EVERY_ANSWER, THREE_BYTES, FURTHER_ENTRIES] {
+    for row in [TWO_CALLERS, EVERY_ANSWER, FURTHER_ENTRIES] {
         let told = is_told(rt.alloc(), &row);
         assert!(rt; told == Ok(true), "at {}", row.play);
     }

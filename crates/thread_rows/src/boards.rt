@@ -3,9 +3,8 @@
 use std::alloc::{AllocError, Global};
 use std::sync::Wait;
 use std::thread::Threads;
-use tty_base::{Bytes, MemSink, MemSource};
 use tty_port::OpenGate;
-use tty_rows::{PIECE, ROOM, written_out};
+use tty_rows::{sink, source, written_out};
 use tty_run::{Ran, VtEntries, tty_run};
 use vt_consoles::{VtEntry, VtEvent};
 
@@ -79,11 +78,8 @@ fn entries_of_a_play<R: Threads + Wait + Sync>(
     rt: &R,
     alloc: Global,
 ) -> Result<Option<VtEntries>, AllocError> {
-    let Ok(mut sink) = MemSink::new(alloc, PIECE, ROOM, Vec::new(alloc)) else {
-        return Err(AllocError);
-    };
-    let text = Bytes::from_vec(written_out(alloc, SESSION)?);
-    let mut source = MemSource::new(text, PIECE, Vec::new(alloc));
+    let mut sink = sink(alloc)?;
+    let mut source = source(alloc, written_out(alloc, SESSION)?);
     let Ran { status, vt, .. } = tty_run(rt, alloc, &["vt"], &mut source, &mut sink, &OpenGate);
     Ok(if status == 0 { Some(vt) } else { None })
 }

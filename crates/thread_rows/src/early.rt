@@ -1,10 +1,11 @@
 //! Input that is flushed while the line still runs.
 
-use super::places::{Place, answers, are_in_order};
-use super::plays::{Outcome, played_behind};
+use super::places::Place;
+use super::plays::{are_in_order, played_behind};
+use std::alloc::{AllocError, Global};
 use std::sync::Wait;
-use std::test::Fail;
-use tty_calls::{Event, Journal, Who};
+use std::thread::Threads;
+use tty_calls::Who;
 use tty_port::Gate;
 
 /// A caller waits for characters of the line.
@@ -39,34 +40,28 @@ impl Gate for BeforeLineEnd {
     }
 }
 
-fn is_flush(journal: &Journal, place: usize) -> bool {
-    matches!(journal.get(place), Some(entry) if matches!(entry.event, Event::Flush(_)))
-}
-
-/// Whether the entry at a place is the end of this phase's line.
-fn is_line_end(journal: &Journal, place: usize, phase: u32) -> bool {
-    matches!(journal.get(place), Some(entry) if entry.step == phase && matches!(entry.event, Event::LineEnd(_)))
-}
+/// The flush, the answer of the read, and the line's end, as the journal tells them.
+const IN_ORDER: [&str; 3] = [
+    "*flush 0 0 0 flush ",
+    "a 2 0 0 answer ",
+    "*line 1 0 0 line_end ",
+];
 
 /// Whether the flush came before the read, and the read before the line's end.
-fn is_early(played: &Outcome) -> bool {
-    let Some(journal) = played.journal() else {
-        return false;
-    };
-    let flush = (0..journal.len()).find(|place| is_flush(journal, *place));
-    let read = (0..journal.len()).find(|place| answers(journal, *place, 0, 2));
-    let end = (0..journal.len()).find(|place| is_line_end(journal, *place, 1));
-    are_in_order(flush, read, end)
+fn is_early<R: Threads + Wait + Sync>(
+    rt: &R,
+    alloc: Global,
+    gate: &BeforeLineEnd,
+) -> Result<bool, AllocError> {
+    let told = played_behind(rt, alloc, A_READ_BESIDE_THE_LINE, gate)?;
+    Ok(told.status == 0 && are_in_order(told.text.as_slice(), &IN_ORDER))
 }
 
 #[test]
-fn flush_early(rt: HostRuntime) -> Result<(), Fail> {
+fn flush_early(rt: HostRuntime) {
     let gate = BeforeLineEnd {
         after_the_read: Place::new(),
     };
-    let played = played_behind(&rt, rt.alloc(), A_READ_BESIDE_THE_LINE, &gate)?;
-    let is_early = played.status == 0 && is_early(&played);
-    drop(played);
-    assert!(rt; is_early && gate.after_the_read.was_met());
-    Ok(())
+    assert!(rt; is_early(&rt, rt.alloc(), &gate) == Ok(true));
+    assert!(rt; gate.after_the_read.was_met());
 }

@@ -1,10 +1,11 @@
 //! Two callers whose turns mix within a write.
 
-use super::places::{Place, answers, are_in_order};
-use super::plays::{Outcome, played_behind};
+use super::places::Place;
+use super::plays::{are_in_order, played_behind};
+use std::alloc::{AllocError, Global};
 use std::sync::Wait;
-use std::test::Fail;
-use tty_calls::{Event, Journal, Who};
+use std::thread::Threads;
+use tty_calls::Who;
 use tty_port::Gate;
 
 /// One caller writes in four parts, and another reads, beside it.
@@ -44,37 +45,25 @@ impl Gate for BetweenParts {
     }
 }
 
-/// Whether the entry at a place is this part of the write.
-fn is_part(journal: &Journal, place: usize, part: u32) -> bool {
-    let Some(entry) = journal.get(place) else {
-        return false;
-    };
-    entry.who == Who::Caller(0)
-        && entry.step == 1
-        && entry.part == part
-        && matches!(entry.event, Event::Part(_))
-}
+/// A part of the write, the answer of the read, and the next part, as the journal tells them.
+const IN_ORDER: [&str; 3] = ["a 1 0 0 part ", "b 0 0 0 answer ", "a 1 1 0 part "];
 
 /// Whether the read was answered between two parts of the write.
-fn are_mixed(played: &Outcome) -> bool {
-    let Some(journal) = played.journal() else {
-        return false;
-    };
-    let first = (0..journal.len()).find(|place| is_part(journal, *place, 0));
-    let read = (0..journal.len()).find(|place| answers(journal, *place, 1, 0));
-    let second = (0..journal.len()).find(|place| is_part(journal, *place, 1));
-    are_in_order(first, read, second)
+fn are_mixed<R: Threads + Wait + Sync>(
+    rt: &R,
+    alloc: Global,
+    gate: &BetweenParts,
+) -> Result<bool, AllocError> {
+    let told = played_behind(rt, alloc, A_WRITE_AND_A_READ, gate)?;
+    Ok(told.status == 0 && are_in_order(told.text.as_slice(), &IN_ORDER))
 }
 
 #[test]
-fn two_in_flight(rt: HostRuntime) -> Result<(), Fail> {
+fn two_in_flight(rt: HostRuntime) {
     let gate = BetweenParts {
         after_a_part: Place::new(),
         after_the_read: Place::new(),
     };
-    let played = played_behind(&rt, rt.alloc(), A_WRITE_AND_A_READ, &gate)?;
-    let are_mixed = played.status == 0 && are_mixed(&played);
-    drop(played);
-    assert!(rt; are_mixed && gate.after_a_part.was_met() && gate.after_the_read.was_met());
-    Ok(())
+    assert!(rt; are_mixed(&rt, rt.alloc(), &gate) == Ok(true));
+    assert!(rt; gate.after_a_part.was_met() && gate.after_the_read.was_met());
 }

@@ -1,15 +1,14 @@
 //! A hangup, or a change of the discipline, at each moment of a write.
 
-use super::places::{MOST_TURNS, answers};
-use super::plays::{Outcome, is_legal, played};
+use super::places::MOST_TURNS;
+use super::plays::{are_in_order, is_legal, played_behind};
 use std::alloc::{AllocError, Global};
 use std::sync::Wait;
 use std::sync::atomic::{AtomicBool, AtomicU32, Ordering};
 use std::thread::{self, Threads};
-use tty_base::Errno;
-use tty_calls::{AnswerRef, Event, Who};
+use tty_calls::Who;
 use tty_port::Gate;
-use tty_rows::written_out;
+use tty_rows::Told;
 
 /// A number of passes that no play has.
 const MOST_PASSES: u32 = 40;
@@ -17,16 +16,12 @@ const MOST_PASSES: u32 = 40;
 /// How many turns a thread steps aside that has let the held call go on.
 const TURNS_ASIDE: u32 = 100;
 
-/// The callers: one writes, the call of another is held, and a third one may read.
+/// The callers whose turns are counted or held: one writes, and the call of another is held.
 const WRITER: u16 = 0;
 
 const HELD: u16 = 1;
 
-const READER: u16 = 2;
-
-/// The steps of the write, and of the writer's last call.
-const WRITE: u32 = 2;
-
+/// The step of the writer's last call.
 const LAST: u32 = 3;
 
 /// A session up to the call that is held.
@@ -113,40 +108,30 @@ impl Gate for AtPass {
     }
 }
 
-/// What a caller's step was answered.
-fn answer_of(outcome: &Outcome, caller: u16, step: u32) -> Option<AnswerRef<'_>> {
-    let journal = outcome.journal()?;
-    let place = (0..journal.len()).find(|place| answers(journal, *place, caller, step))?;
-    match journal.get(place)?.event {
-        Event::Answer { answer, .. } => Some(answer),
-        _ => None,
-    }
+/// Whether a report tells this line.
+fn tells(told: &Told, line: &str) -> bool {
+    are_in_order(told.text.as_slice(), &[line])
 }
 
 /// Whether a write was done whole, or refused because of the call that was held.
-fn may_be_written(answer: Option<AnswerRef>, held: &str) -> bool {
-    match answer {
-        Some(AnswerRef::Count(200)) => true,
-        Some(AnswerRef::Refused(Errno::EIO)) => held != NO_CHANGE,
-        _ => false,
-    }
+fn is_well_written(told: &Told, held: &str) -> bool {
+    tells(told, "0.a.2 write 200\n") || held != NO_CHANGE && tells(told, "0.a.2 write EIO\n")
 }
 
 /// Whether a read of which no byte came ended as the call that was held has it.
-fn may_be_read(answer: Option<AnswerRef>, held: &str) -> bool {
-    match answer {
-        Some(AnswerRef::Got(bytes)) => held == HANGUP && bytes.is_empty(),
-        Some(AnswerRef::Refused(Errno::EIO)) => held == CHANGE,
-        Some(AnswerRef::Idle) => held == NO_CHANGE,
-        _ => false,
+fn is_well_read(told: &Told, held: &str) -> bool {
+    if held == HANGUP {
+        tells(told, "0.c.0 read 0\n")
+    } else if held == CHANGE {
+        tells(told, "0.c.0 read EIO\n")
+    } else {
+        tells(told, "0.c.0 read idle\n")
     }
 }
 
-/// Whether a play in which a call was held was told, and its write and its read were answered so.
-fn is_well_answered(told: &Outcome, held: &str, beside: &str) -> bool {
-    let written = may_be_written(answer_of(told, WRITER, WRITE), held);
-    let read = beside != A_READ || may_be_read(answer_of(told, READER, 0), held);
-    told.status == 0 && written && read
+/// Whether the write and the read of a play were answered as the call that was held has it.
+fn is_well_answered(told: &Told, held: &str, beside: &str) -> bool {
+    is_well_written(told, held) && (beside != A_READ || is_well_read(told, held))
 }
 
 /// Plays a session whose held call goes on at a pass. Answers how many passes there were, where all goes well.
@@ -159,15 +144,11 @@ fn passes_at<R: Threads + Wait + Sync>(
     at: u32,
 ) -> Result<Option<u32>, AllocError> {
     let gate = AtPass::new(at);
-    let text = written_out(alloc, session)?;
-    let told = played(rt, alloc, &["run", "--journal"], text, &gate)?;
-    let well = is_well_answered(&told, held, beside);
-    let legal = is_legal(rt, alloc, session, told.text.as_slice());
-    drop(told);
+    let told = played_behind(rt, alloc, session, &gate)?;
+    let well = is_well_answered(&told, held, beside) && is_legal(rt, alloc, session, &told)?;
     let is_held = !gate.is_given_up.load(Ordering::SeqCst);
-    let passes = gate.passes();
-    Ok(if well && is_held && legal == Ok(true) {
-        Some(passes)
+    Ok(if well && is_held {
+        Some(gate.passes())
     } else {
         None
     })
@@ -213,16 +194,9 @@ fn goes_well_beside_each<R: Threads + Wait + Sync>(
 }
 
 #[test]
-fn a_write_is_whole_or_refused_by_a_hangup(rt: HostRuntime) {
-    assert!(rt; goes_well_beside_each(&rt, rt.alloc(), HANGUP) == Ok(true));
-}
-
-#[test]
-fn a_write_is_whole_or_refused_by_a_change(rt: HostRuntime) {
-    assert!(rt; goes_well_beside_each(&rt, rt.alloc(), CHANGE) == Ok(true));
-}
-
-#[test]
-fn a_write_is_whole_where_nothing_changes(rt: HostRuntime) {
-    assert!(rt; goes_well_beside_each(&rt, rt.alloc(), NO_CHANGE) == Ok(true));
+fn a_write_is_whole_or_refused_by_what_was_held(rt: HostRuntime) {
+    for held in [HANGUP, CHANGE, NO_CHANGE] {
+        let well = goes_well_beside_each(&rt, rt.alloc(), held);
+        assert!(rt; well == Ok(true), "with {held}");
+    }
 }

@@ -1,11 +1,6 @@
 //! Plays under load, with a change of discipline and a hangup.
 
-use super::plays::{is_legal, played};
-use std::alloc::{AllocError, Global};
-use std::sync::Wait;
-use std::thread::Threads;
-use tty_port::OpenGate;
-use tty_rows::written_out;
+use super::plays::is_legally_played;
 
 /// How often each session is played.
 const PLAYS: u32 = 10;
@@ -53,25 +48,12 @@ vhangup 0
 end
 ";
 
-/// Whether the journals of a play are legal.
-fn is_legally_played<R: Threads + Wait + Sync>(
-    rt: &R,
-    alloc: Global,
-    session: &str,
-) -> Result<bool, AllocError> {
-    let text = written_out(alloc, session)?;
-    let told = played(rt, alloc, &["run", "--journal"], text, &OpenGate)?;
-    match told.text_of_play() {
-        Some(text) => is_legal(rt, alloc, session, text.as_slice()),
-        None => Ok(false),
-    }
-}
-
 #[test]
 fn plays_under_load_are_legal(rt: HostRuntime) {
     for play in 0..PLAYS {
-        let short = is_legally_played(&rt, rt.alloc(), SHORT);
-        let long = is_legally_played(&rt, rt.alloc(), LONG);
-        assert!(rt; short == Ok(true) && long == Ok(true), "at play {play}");
+        for session in [SHORT, LONG] {
+            let legal = is_legally_played(&rt, rt.alloc(), &["run", "--journal"], session);
+            assert!(rt; legal == Ok(true), "at play {play}");
+        }
     }
 }

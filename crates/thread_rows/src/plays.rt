@@ -1,99 +1,67 @@
-//! How a session is played.
+//! How a session is played on threads.
 
 use std::alloc::{AllocError, Global};
+use std::str;
 use std::sync::Wait;
 use std::thread::Threads;
-use tty_base::{Bytes, MemSink, MemSource};
-use tty_calls::Journal;
-use tty_port::{Gate, OpenGate};
-use tty_rows::{with_journals, written_out};
-use tty_run::{Ran, Runs, tty_run};
+use tty_port::Gate;
+use tty_rows::{Told, told_behind, told_on_threads, with_journals, written_out};
 
-/// How many bytes a source or a sink moves at most in one call.
-const PIECE: usize = 4_096;
+const MANY: &[&str] = &["run", "--journal"];
 
-/// How many bytes a sink takes in all: more than is told of any of these sessions.
-const ROOM: usize = 65_536;
-
-/// What a call of the program came to: its status, the text that it gave, and the runs of the ports.
-#[derive(Drop)]
-pub(crate) struct Outcome {
-    pub(crate) status: u8,
-    pub(crate) text: Vec<u8>,
-    runs: Runs,
-}
-
-impl Outcome {
-    /// The journal of the first port.
-    pub(crate) fn journal(&self) -> Option<&Journal> {
-        match self.runs.as_slice().first() {
-            Some(run) => Some(&run.journal),
-            None => None,
-        }
-    }
-
-    /// The text, where there was nothing wrong.
-    pub(crate) fn text_of_play(self) -> Option<Vec<u8>> {
-        let Outcome { status, text, runs } = self;
-        drop(runs);
-        if status == 0 { Some(text) } else { None }
-    }
-}
-
-/// What becomes of a text with these words.
-pub(crate) fn played<R: Threads + Wait + Sync, G: Gate + Sync>(
-    rt: &R,
-    alloc: Global,
-    words: &[&str],
-    text: Vec<u8>,
-    gate: &G,
-) -> Result<Outcome, AllocError> {
-    let Ok(mut sink) = MemSink::new(alloc, PIECE, ROOM, Vec::new(alloc)) else {
-        return Err(AllocError);
-    };
-    let mut source = MemSource::new(Bytes::from_vec(text), PIECE, Vec::new(alloc));
-    let Ran { status, runs, .. } = tty_run(rt, alloc, words, &mut source, &mut sink, gate);
-    outcome_of(alloc, status, runs, &sink)
-}
-
-/// The outcome of a call whose text a sink was given.
-fn outcome_of(
-    alloc: Global,
-    status: u8,
-    runs: Runs,
-    sink: &MemSink,
-) -> Result<Outcome, AllocError> {
-    match sink.given().to_vec(alloc) {
-        Ok(text) => Ok(Outcome { status, text, runs }),
-        Err(error) => {
-            drop(runs);
-            Err(error)
-        }
-    }
-}
-
-/// What becomes of a session that is played on threads.
+/// What is told of a session that is played behind a gate, with its journals.
 pub(crate) fn played_behind<R: Threads + Wait + Sync, G: Gate + Sync>(
     rt: &R,
     alloc: Global,
     session: &str,
     gate: &G,
-) -> Result<Outcome, AllocError> {
-    let text = written_out(alloc, session)?;
-    played(rt, alloc, &["run"], text, gate)
+) -> Result<Told, AllocError> {
+    told_behind(rt, alloc, MANY, written_out(alloc, session)?, gate)
 }
 
-/// Whether the journals in what was told of a session are legal.
+/// What is told of a session that is played with these words.
+pub(crate) fn played<R: Threads + Wait + Sync>(
+    rt: &R,
+    alloc: Global,
+    words: &[&str],
+    session: &str,
+) -> Result<Told, AllocError> {
+    told_on_threads(rt, alloc, words, written_out(alloc, session)?)
+}
+
+/// Whether a session was played, and the journals in what was told of it are legal.
 pub(crate) fn is_legal<R: Threads + Wait + Sync>(
     rt: &R,
     alloc: Global,
     session: &str,
-    told: &[u8],
+    told: &Told,
 ) -> Result<bool, AllocError> {
-    let text = with_journals(alloc, session, told)?;
-    let judged = played(rt, alloc, &["check"], text, &OpenGate)?;
-    match judged.text_of_play() {
-        Some(text) => Ok(text.as_slice() == b"legal\n".as_slice()),
-        None => Ok(false),
+    let text = with_journals(alloc, session, told.text.as_slice())?;
+    let judged = told_on_threads(rt, alloc, &["check"], text)?;
+    Ok(told.status == 0 && judged.status == 0 && judged.text.as_slice() == b"legal\n".as_slice())
+}
+
+/// Whether the journals of a session that is played with these words are legal.
+pub(crate) fn is_legally_played<R: Threads + Wait + Sync>(
+    rt: &R,
+    alloc: Global,
+    words: &[&str],
+    session: &str,
+) -> Result<bool, AllocError> {
+    let told = played(rt, alloc, words, session)?;
+    is_legal(rt, alloc, session, &told)
+}
+
+/// Whether all these pieces stand in a text, each behind those before it.
+pub(crate) fn are_in_order(text: &[u8], pieces: &[&str]) -> bool {
+    let Ok(mut rest) = str::from_utf8(text) else {
+        return false;
+    };
+    for piece in pieces {
+        match rest.split_once(*piece) {
+            Some((_, behind)) => rest = behind,
+            None => return false,
+        }
     }
+    true
 }

@@ -52,7 +52,10 @@ all_stay bytes more words others (k ∷ ks) w =
 
 -- one more call, behind those before
 pub one_more : (bytes now : List ℕ) (words here : List Word) (ks : List KeptCall) (k : KeptCall) (call : PlainCall)
-    → Extends bytes now → Extends words here → All (IsWithinLists (length bytes) (length words)) ks → kept_in now here k ≡ call
+    → Extends bytes now
+    → Extends words here
+    → All (IsWithinLists (length bytes) (length words)) ks
+    → kept_in now here k ≡ call
     → map (kept_in now here) (ks ++ k ∷ []) ≡ map (kept_in bytes words) ks ++ call ∷ []
 one_more bytes now words here ks k call (more, grown) (others, longer) w is =
     map-append (kept_in now here) ks (k ∷ [])

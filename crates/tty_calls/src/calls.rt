@@ -155,8 +155,7 @@ impl Call<'_> {
         }
     }
 
-    /// Whether the call may change the line discipline or the generation: `Close`, `SetDisc` and
-    /// `Vhangup` may.
+    /// Whether the call may change the line discipline or the generation: `Close`, `SetDisc` and `Vhangup` may.
     pub fn changes(&self) -> bool
         ensures { result ≡ changes (call_of self.now) }
     {

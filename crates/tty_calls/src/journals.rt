@@ -4,8 +4,7 @@ use super::answers::AnswerRef;
 use super::kept_entries::Journal;
 use tty_base::{Flagged, LineReport, Moves};
 
-/// Who made an entry. A caller's number is the place of its name in the order in which names first
-/// occur for the port.
+/// Who made an entry. A caller's number is the place of its name in the order in which names first occur for the port.
 #[derive(Clone, Copy, Debug, PartialEq, Eq)]
 pub enum Who {
     Caller(u16),

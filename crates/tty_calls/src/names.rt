@@ -11,8 +11,7 @@ use std::alloc::Global;
 use std::marker::Model;
 use tty_base::NoMemory;
 
-/// The names of a port's callers, in the order in which they first occur. A caller's number is the
-/// place of its name.
+/// The names of a port's callers, in the order in which they first occur. A caller's number is the place of its name.
 #[derive(Drop)]
 pub struct Names {
     names: IndexSet<ArrayString<16>>,

@@ -25,8 +25,7 @@ pub(crate) fn part_in<T>(list: &[T], part: ListPart) -> &[T]
     &list[first..first + part.count as usize]
 }
 
-/// Adds elements to a list, and answers which part of it they are. A part ends below 2^32, and more is
-/// want of memory.
+/// Adds elements to a list, and answers which part of it they are. A part ends below 2^32, and more is want of memory.
 pub(crate) fn keep<T: Copy>(list: &mut Vec<T>, more: &[T]) -> Result<ListPart, NoMemory>
     ensures list { OnOk result (list.new.items ≡ list.old.items ++ more.now) }
     ensures part { IfOk result (λ part. part ≡ record { first = length list.old.items; count = length more.now }) }

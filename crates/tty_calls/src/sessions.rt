@@ -14,8 +14,7 @@ pub struct Script {
     pub calls: Calls,
 }
 
-/// A part of the session whose work ends before the next phase begins. `lines` and `ticks` have one
-/// item for each port.
+/// A part of the session whose work ends before the next phase begins. `lines` and `ticks` have one item for each port.
 #[derive(Drop)]
 pub struct Phase {
     pub lines: Buffer<LineSteps>,

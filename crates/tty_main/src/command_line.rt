@@ -2,7 +2,7 @@
 
 ghost use Rattle.std.specs.Prelude.{◌≡◌, IfOk, drop, map, string_bytes};
 ghost use Rattle.tty_one.specs.Endings.{texts_of};
-ghost use Rattle.tty_main.specs.Ended.{words_after_name};
+ghost use Rattle.tty_main.specs.ExitStatus.{words_after_name};
 
 use std::alloc::{AllocGlobal, Global};
 use std::{env, io};

@@ -3,7 +3,7 @@
 ghost use Rattle.std.specs.Prelude.{◌≡◌, ◌⊎◌, [], IfOk, IfSome, IfNone, OnErr};
 ghost use Rattle.std.specs.Process.{exit_status};
 ghost use Rattle.tty_one.specs.Endings.{texts_of};
-ghost use Rattle.tty_main.specs.Ended.{IsEnded, IsStarved, words_after_name};
+ghost use Rattle.tty_main.specs.ExitStatus.{IsEnded, IsStarved, words_after_name};
 
 use crate::command_line::{Arguments, words_of};
 use std::alloc::Global;

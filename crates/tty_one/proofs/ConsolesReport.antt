@@ -17,8 +17,8 @@ use Rattle.tty_one.specs.Endings.{Ask, AskVtOne}
 use Rattle.tty_one.specs.Reported.{Returned, IsOrdered, IsToldAs}
 use Rattle.tty_one.specs.Consoles.{SpellsConsoles, AreConsolesInOrder, IsToldOfConsoles}
 use Rattle.tty_one.specs.Outcome.{IsToldBy, IsDone, GaveTheSame}
-use Rattle.tty_one.proofs.Outcomes.{not_jobs_and_vt, not_modem_and_vt, not_vt_and_run, not_vt_and_one, not_vt_and_gen}
-use Rattle.tty_one.proofs.Outcomes.{not_vt_and_check, not_vt_and_vt_one}
+use Rattle.tty_one.proofs.AskedWords.{not_jobs_and_vt, not_modem_and_vt, not_vt_and_run, not_vt_and_one}
+use Rattle.tty_one.proofs.AskedWords.{not_vt_and_gen, not_vt_and_check, not_vt_and_vt_one}
 use Rattle.tty_one.proofs.OneReport.{AreSame, all_calls, one_told, both_gave}
 
 -- ---- of runs that are the same

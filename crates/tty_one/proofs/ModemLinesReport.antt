@@ -1,13 +1,11 @@
 -- Two reports of a session of ports with modem lines on one thread are the same.
-use Rattle.std.proofs.Common.{◌≡◌, ◌<◌, inl, inr, ℕ, List, ◌++◌, Some, Option, Result, Ok}
+use Rattle.std.proofs.Common.{◌≡◌, ◌<◌, inl, inr, ℕ, List, ◌++◌, Some, Option, Ok}
 use Rattle.std.proofs.Common.{codes, sym, ◌∙◌, ap, subst, arith}
 use Rattle.tty_calls.specs.declared.journals.PortRun.{PortRun}
 use Rattle.session_print.specs.Ends.{PlainEnd}
 use Rattle.session_print.specs.Lines.{newline}
-use Rattle.session_text.specs.declared.faults.BadLine.{BadLine}
 use Rattle.passed_calls.specs.Blocks.{names_on}
 use Rattle.passed_calls.specs.Logs.{logged_on}
-use Rattle.passed_laws.specs.Same.{IsSamePort}
 use Rattle.modem_text.specs.Events.{ModemLog}
 use Rattle.modem_text.specs.Reading.{modem_in}
 use Rattle.modem_text.specs.Sessions.{ModemSession, blocks_in}
@@ -24,10 +22,11 @@ use Rattle.tty_one.specs.Endings.{Ask, AskModem}
 use Rattle.tty_one.specs.ModemLines.{log_of, IsOrderedWith, AreModemLinesPlayed, IsToldOfModemLines}
 use Rattle.tty_one.specs.Outcome.{IsToldBy, IsDone, GaveTheSame}
 use Rattle.tty_one.specs.Reported.{Returned, end_at, IsWhole}
-use Rattle.tty_one.proofs.LogsAlike.{told_same, each_same, some_at}
-use Rattle.tty_one.proofs.OneReport.{AreSame, all_ports, OneEach, all_one, both_gave}
-use Rattle.tty_one.proofs.Outcomes.{not_modem_and_run, not_modem_and_one, not_modem_and_jobs, not_modem_and_gen}
-use Rattle.tty_one.proofs.Outcomes.{not_modem_and_check, not_modem_and_vt}
+use Rattle.tty_one.proofs.LoggedReport.{IsSameTold, IsReportOf, one_logged_report, same_ok}
+use Rattle.tty_one.proofs.LogsAlike.{told_same, each_same}
+use Rattle.tty_one.proofs.OneReport.{AreSame, all_ports, both_gave}
+use Rattle.tty_one.proofs.AskedWords.{not_modem_and_run, not_modem_and_one, not_modem_and_jobs, not_modem_and_gen}
+use Rattle.tty_one.proofs.AskedWords.{not_modem_and_check, not_modem_and_vt}
 
 -- logs that are the same on each port, and runs that are the same, are told alike
 same_told : (session : ModemSession) (log other : ModemLog) (runs others : List PortRun) (ends : List PlainEnd)
@@ -55,12 +54,29 @@ played_whole session log p run end h =
     record { legal = h.whole.legal; logged = h.logged; in_order = h.whole.in_order }
 
 same_port : (session : ModemSession) (log other : ModemLog) (p : ℕ) (run again : PortRun) (end last : PlainEnd)
-    → (h : IsToldPort session log p run end)
-    → (k : IsToldPort session other p again last)
-    → IsSamePort p log other run again h.whole.terminal k.whole.terminal
+    → IsToldPort session log p run end
+    → IsToldPort session other p again last
+    → IsSameTold p log other run again end last
 same_port session log other p run again end last h k =
-    one_port p session log other run again h.whole.terminal k.whole.terminal (played_whole session log p run end h)
-    (played_whole session other p again last k)
+    let same = one_port p session log other run again h.whole.terminal k.whole.terminal
+    (played_whole session log p run end h) (played_whole session other p again last k) in
+    record {
+      run_same = same.run_same;
+      end_same = h.whole.at_end ∙ (ap end_at same.terminal ∙ sym k.whole.at_end);
+      log_same = same.log_same;
+    }
+
+report_of : (session : ModemSession) (back : Returned) (text : List ℕ)
+    → AreModemLinesPlayed session back text
+    → IsReportOf session.ports (modem_report_text session) (IsToldPort session (log_of back)) (log_of back)
+    back.runs text
+report_of session back text h = record {
+  ends = h.told.ends;
+  runs_of_all = h.told.runs_of_all;
+  ends_of_all = h.told.ends_of_all;
+  each = λ p run end is at. record { whole = h.told.each p run end is at; logged = h.logged p run is };
+  told = h.told.told;
+}
 
 pub one_modem_report : (session : ModemSession) (back other : Returned) (text told : List ℕ)
     → AreModemLinesPlayed session back text
@@ -69,32 +85,11 @@ pub one_modem_report : (session : ModemSession) (back other : Returned) (text to
 one_modem_report session back other text told h k =
     let log = log_of back in
     let log' = log_of other in
-    let first : OneEach (IsToldPort session log) back.runs h.told.ends = record {
-      count = h.told.ends_of_all ∙ sym h.told.runs_of_all;
-      each = λ p run end is at. record { whole = h.told.each p run end is at; logged = h.logged p run is };
-    } in
-    let second : OneEach (IsToldPort session log') other.runs k.told.ends = record {
-      count = k.told.ends_of_all ∙ sym k.told.runs_of_all;
-      each = λ p run end is at. record { whole = k.told.each p run end is at; logged = k.logged p run is };
-    } in
-    let all = all_one (IsToldPort session log) (IsToldPort session log')
-    (λ p run again end last x y.
-    let same = same_port session log log' p run again end last x y in
-    (same.run_same, x.whole.at_end ∙ (ap end_at same.terminal ∙ sym y.whole.at_end)))
-    back.runs other.runs h.told.ends k.told.ends (h.told.runs_of_all ∙ sym k.told.runs_of_all) first second in
-    let logs : (p : ℕ) → p < session.ports → logged_on p log ≡ logged_on p log' = λ p lt.
-    let run = some_at back.runs p (omega (arith, lt, h.told.runs_of_all)) in
-    let end = some_at h.told.ends p (omega (arith, lt, h.told.ends_of_all)) in
-    let again = some_at other.runs p (omega (arith, lt, k.told.runs_of_all)) in
-    let last = some_at k.told.ends p (omega (arith, lt, k.told.ends_of_all)) in
-    (same_port session log log' p run.0 again.0 end.0 last.0 (first.each p run.0 end.0 run.1 end.1)
-    (second.each p again.0 last.0 again.1 last.1)).log_same in
-    h.told.told
-    ∙ (same_told session log log' back.runs other.runs h.told.ends logs all.0
-    ∙ (ap (λ (es : List PlainEnd). modem_report_text session log' other.runs es) all.1 ∙ sym k.told.told))
-
-abbrev as_read : ModemSession → Result ModemSession BadLine
-as_read session = Ok session
+    one_logged_report session.ports (modem_report_text session) (IsToldPort session log) (IsToldPort session log') log
+    log' back.runs other.runs text told
+    (λ p run again end last x y. same_port session log log' p run again end last x y)
+    (λ ends logs runs. same_told session log log' back.runs other.runs ends logs runs) (report_of session back text h)
+    (report_of session other told k)
 
 -- ---- two calls
 
@@ -114,12 +109,6 @@ modem_told words bytes (Gen number) back text modem asked told =
 modem_told words bytes Check back text modem asked told = absurd (not_modem_and_check words modem asked)
 modem_told words bytes Vt back text modem asked told = absurd (not_modem_and_vt words modem (inl asked))
 modem_told words bytes VtOne back text modem asked told = absurd (not_modem_and_vt words modem (inr asked))
-
-same_ok : (one other : ModemSession) (r : Result ModemSession BadLine) → r ≡ Ok one → r ≡ Ok other → one ≡ other
-same_ok one other r h k = ok_same (sym h ∙ k)
-  where
-    ok_same : as_read one ≡ as_read other → one ≡ other
-    ok_same e = cc
 
 pub modem_lines_tell_the_same : (words : List (List ℕ)) (bytes before before' : List ℕ) (now now' : Option (List ℕ))
     (back other : Returned)

@@ -26,9 +26,9 @@ use Rattle.tty_one.specs.declared.words.Command.TheVariants.{Run, RunOne, Modem,
 use Rattle.tty_one.specs.Endings.{Ask, AskRunOne, AreRunOne, AreGen, AskGen}
 use Rattle.tty_one.specs.Reported.{Returned, end_at, IsOrdered, IsWhole, text_by, IsToldAs, IsReported}
 use Rattle.tty_one.specs.Outcome.{IsPlayedText, WasGiven, IsToldBy, IsDone, GaveTheSame}
-use Rattle.tty_one.proofs.Outcomes.{not_gen_and_one, not_gen_and_run, not_check_and_gen, not_check_and_one}
-use Rattle.tty_one.proofs.Outcomes.{not_modem_and_gen, not_modem_and_one}
-use Rattle.tty_one.proofs.Outcomes.{not_run_and_one, not_jobs_and_one, not_jobs_and_gen, not_vt_and_one, not_vt_and_gen}
+use Rattle.tty_one.proofs.AskedWords.{not_gen_and_one, not_gen_and_run, not_check_and_gen, not_check_and_one}
+use Rattle.tty_one.proofs.AskedWords.{not_modem_and_gen, not_modem_and_one, not_run_and_one, not_jobs_and_one}
+use Rattle.tty_one.proofs.AskedWords.{not_jobs_and_gen, not_vt_and_one, not_vt_and_gen}
 
 -- ---- runs that are the same
 

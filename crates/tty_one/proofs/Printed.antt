@@ -19,9 +19,9 @@ use Rattle.tty_one.specs.Endings.{Ask, AskJournals}
 use Rattle.tty_one.specs.Reported.{Returned, IsOrdered, IsInAnyOrder, IsReported}
 use Rattle.tty_one.specs.Outcome.{IsPlayedText, IsToldBy, IsDone, with_journals, IsReadBack, GaveJournals}
 use Rattle.tty_one.proofs.Judged.{spelled_in, legal_alike}
-use Rattle.tty_one.proofs.Outcomes.{not_gen_and_run, not_gen_and_one, not_check_and_run, not_check_and_one}
-use Rattle.tty_one.proofs.Outcomes.{not_modem_and_one, not_modem_and_run}
-use Rattle.tty_one.proofs.Outcomes.{not_run_and_one, not_jobs_and_run, not_jobs_and_one, not_vt_and_run, not_vt_and_one}
+use Rattle.tty_one.proofs.AskedWords.{not_gen_and_run, not_gen_and_one, not_check_and_run, not_check_and_one}
+use Rattle.tty_one.proofs.AskedWords.{not_modem_and_one, not_modem_and_run, not_run_and_one, not_jobs_and_run}
+use Rattle.tty_one.proofs.AskedWords.{not_jobs_and_one, not_vt_and_run, not_vt_and_one}
 use Rattle.tty_one.proofs.PortLemmas.{there_too}
 
 pub reported_back : (InOrder : ℕ → PlainSession → PortRun → Type 0)

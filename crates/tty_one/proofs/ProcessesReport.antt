@@ -1,7 +1,7 @@
 -- Two reports of a session of processes on one thread are the same.
-use Rattle.std.proofs.Common.{◌≡◌, ◌<◌, inl, inr, ℕ, ◌+◌, List, [], ◌∷◌}
+use Rattle.std.proofs.Common.{◌≡◌, ◌<◌, inl, inr, ℕ, List, [], ◌∷◌}
 use Rattle.std.proofs.Common.{◌++◌, Some}
-use Rattle.std.proofs.Common.{Option, Result, Ok, map, codes, refl, sym, ◌∙◌, ap}
+use Rattle.std.proofs.Common.{Option, Ok, map, codes, refl, sym, ◌∙◌, ap}
 use Rattle.std.proofs.Common.{subst, arith}
 use Rattle.std.specs.Prelude.{slice_index_or}
 use Rattle.tty_calls.specs.declared.journals.PortRun.{PortRun}
@@ -11,7 +11,6 @@ use Rattle.passed_calls.specs.Blocks.{names_on}
 use Rattle.passed_calls.specs.Logs.{logged_on}
 use Rattle.job_text.specs.Events.{JobLog}
 use Rattle.job_text.specs.Sessions.{JobsSession, blocks_in}
-use Rattle.session_text.specs.declared.faults.BadLine.{BadLine}
 use Rattle.job_control.specs.declared.processes.Proc.{Proc}
 use Rattle.job_text.specs.Reading.{jobs_in}
 use Rattle.job_steps.specs.Derived.{derived}
@@ -22,7 +21,6 @@ use Rattle.further_report.specs.Calls.{ToldAnswer, calls_text}
 use Rattle.further_report.specs.Ports.{without_phases}
 use Rattle.further_report.specs.Jobs.{own_verb, told_in, scripts_in, port_calls, signal_in}
 use Rattle.further_report.specs.Jobs.{port_signals, jobs_report_text}
-use Rattle.passed_laws.specs.Same.{IsSamePort}
 use Rattle.job_laws.specs.OneRun.{IsPlayedWhole}
 use Rattle.job_laws.proofs.OnePort.{one_port}
 use Rattle.tty_one.specs.declared.words.Command.{Command}
@@ -32,10 +30,11 @@ use Rattle.tty_one.specs.Outcome.{IsToldBy, IsDone, GaveTheSame}
 use Rattle.tty_one.specs.Reported.{Returned, end_at, IsOrdered, IsWhole, IsToldAs}
 use Rattle.tty_one.specs.Processes.{bare_proc, bare_of, log_of, IsLoggedOn, AreProcessesPlayed, IsToldOfProcesses}
 use Rattle.tty_one.proofs.BareJobs.{bare_port, bare_state, first_state_same, leads_bare, turns_bare}
-use Rattle.tty_one.proofs.Outcomes.{not_jobs_and_one, not_jobs_and_gen, not_jobs_and_vt, not_jobs_and_run}
-use Rattle.tty_one.proofs.Outcomes.{not_jobs_and_check, not_modem_and_jobs}
-use Rattle.tty_one.proofs.LogsAlike.{told_same, each_same, some_at}
-use Rattle.tty_one.proofs.OneReport.{AreSame, all_ports, OneEach, all_one, both_gave}
+use Rattle.tty_one.proofs.AskedWords.{not_jobs_and_one, not_jobs_and_gen, not_jobs_and_vt, not_jobs_and_run}
+use Rattle.tty_one.proofs.AskedWords.{not_jobs_and_check, not_modem_and_jobs}
+use Rattle.tty_one.proofs.LoggedReport.{IsSameTold, IsReportOf, one_logged_report, same_ok}
+use Rattle.tty_one.proofs.LogsAlike.{told_same, each_same}
+use Rattle.tty_one.proofs.OneReport.{AreSame, all_ports, both_gave}
 
 -- ---- what a report says of a port
 
@@ -71,12 +70,29 @@ played_whole session log p run end h = record {
 }
 
 same_port : (session : JobsSession) (log other : JobLog) (p : ℕ) (run again : PortRun) (end last : PlainEnd)
-    → (h : IsToldPort session log p run end)
-    → (k : IsToldPort session other p again last)
-    → IsSamePort p log other run again h.whole.terminal k.whole.terminal
+    → IsToldPort session log p run end
+    → IsToldPort session other p again last
+    → IsSameTold p log other run again end last
 same_port session log other p run again end last h k =
-    one_port p session log other run again h.whole.terminal k.whole.terminal (played_whole session log p run end h)
-    (played_whole session other p again last k)
+    let same = one_port p session log other run again h.whole.terminal k.whole.terminal
+    (played_whole session log p run end h) (played_whole session other p again last k) in
+    record {
+      run_same = same.run_same;
+      end_same = h.whole.at_end ∙ (ap end_at same.terminal ∙ sym k.whole.at_end);
+      log_same = same.log_same;
+    }
+
+report_of : (session : JobsSession) (back : Returned) (text : List ℕ)
+    → AreProcessesPlayed session back text
+    → IsReportOf session.ports (jobs_report_text (bare_of session)) (IsToldPort session (log_of back)) (log_of back)
+    back.runs text
+report_of session back text h = record {
+  ends = h.told.ends;
+  runs_of_all = h.told.runs_of_all;
+  ends_of_all = h.told.ends_of_all;
+  each = λ p run end is at. record { whole = h.told.each p run end is at; logged = h.logged p run is };
+  told = h.told.told;
+}
 
 one_session_report : (session : JobsSession) (back other : Returned) (text told : List ℕ)
     → AreProcessesPlayed session back text
@@ -85,29 +101,11 @@ one_session_report : (session : JobsSession) (back other : Returned) (text told 
 one_session_report session back other text told h k =
     let log = log_of back in
     let log' = log_of other in
-    let first : OneEach (IsToldPort session log) back.runs h.told.ends = record {
-      count = h.told.ends_of_all ∙ sym h.told.runs_of_all;
-      each = λ p run end is at. record { whole = h.told.each p run end is at; logged = h.logged p run is };
-    } in
-    let second : OneEach (IsToldPort session log') other.runs k.told.ends = record {
-      count = k.told.ends_of_all ∙ sym k.told.runs_of_all;
-      each = λ p run end is at. record { whole = k.told.each p run end is at; logged = k.logged p run is };
-    } in
-    let all = all_one (IsToldPort session log) (IsToldPort session log')
-    (λ p run again end last x y.
-    let same = same_port session log log' p run again end last x y in
-    (same.run_same, x.whole.at_end ∙ (ap end_at same.terminal ∙ sym y.whole.at_end)))
-    back.runs other.runs h.told.ends k.told.ends (h.told.runs_of_all ∙ sym k.told.runs_of_all) first second in
-    let logs : (p : ℕ) → p < session.ports → logged_on p log ≡ logged_on p log' = λ p lt.
-    let run = some_at back.runs p (omega (arith, lt, h.told.runs_of_all)) in
-    let end = some_at h.told.ends p (omega (arith, lt, h.told.ends_of_all)) in
-    let again = some_at other.runs p (omega (arith, lt, k.told.runs_of_all)) in
-    let last = some_at k.told.ends p (omega (arith, lt, k.told.ends_of_all)) in
-    (same_port session log log' p run.0 again.0 end.0 last.0 (first.each p run.0 end.0 run.1 end.1)
-    (second.each p again.0 last.0 again.1 last.1)).log_same in
-    h.told.told
-    ∙ (same_told (bare_of session) log log' back.runs other.runs h.told.ends logs all.0
-    ∙ (ap (λ (es : List PlainEnd). jobs_report_text (bare_of session) log' other.runs es) all.1 ∙ sym k.told.told))
+    one_logged_report session.ports (jobs_report_text (bare_of session)) (IsToldPort session log)
+    (IsToldPort session log') log log' back.runs other.runs text told
+    (λ p run again end last x y. same_port session log log' p run again end last x y)
+    (λ ends logs runs. same_told (bare_of session) log log' back.runs other.runs ends logs runs)
+    (report_of session back text h) (report_of session other told k)
 
 -- ---- of sessions that differ in the room behind names alone
 
@@ -167,9 +165,6 @@ one_processes_report session again back other text told same h k =
     one_session_report (bare_of session) back other text told (played_bare session back text h)
     (subst (λ (s : JobsSession). AreProcessesPlayed s other told) (sym same) (played_bare again other told k))
 
-abbrev as_read : JobsSession → Result JobsSession BadLine
-as_read session = Ok session
-
 -- ---- two calls
 
 processes_told : (words : List (List ℕ)) (bytes : List ℕ) (command : Command) (back : Returned) (text : List ℕ)
@@ -188,12 +183,6 @@ processes_told words bytes (Gen number) back text jobs asked told =
 processes_told words bytes Check back text jobs asked told = absurd (not_jobs_and_check words jobs asked)
 processes_told words bytes Vt back text jobs asked told = absurd (not_jobs_and_vt words jobs (inl asked))
 processes_told words bytes VtOne back text jobs asked told = absurd (not_jobs_and_vt words jobs (inr asked))
-
-same_ok : (one other : JobsSession) (r : Result JobsSession BadLine) → r ≡ Ok one → r ≡ Ok other → one ≡ other
-same_ok one other r h k = ok_same (sym h ∙ k)
-  where
-    ok_same : as_read one ≡ as_read other → one ≡ other
-    ok_same e = cc
 
 pub processes_tell_the_same : (words : List (List ℕ)) (bytes before before' : List ℕ) (now now' : Option (List ℕ))
     (back other : Returned)

@@ -7,11 +7,11 @@ use Rattle.tty_base.specs.Sizes.{PIECE}
 use Rattle.tty_base.specs.declared.characters.Flagged.{Flagged}
 use Rattle.word_ring.specs.Ends.{TakerState, PutterState}
 use Rattle.tty_calls.specs.declared.journals.Who.{Who}
-use Rattle.tty_calls.specs.declared.journals.Who.TheVariants.{Caller, Line, Clock}
+use Rattle.tty_calls.specs.declared.journals.Who.TheVariants.{Line, Clock}
 use Rattle.tty_calls.specs.Plain.{PlainEvent, flushed, ticked}
-use Rattle.tty_calls.specs.Plain.{line_ended, clock_ended, caller_ended, PlainEntry}
+use Rattle.tty_calls.specs.Plain.{line_ended, clock_ended, PlainEntry}
 use Rattle.tty_terminal.specs.declared.callers.Piece.{Piece}
-use Rattle.tty_terminal.specs.Terminals.{Terminal, opening, caller_at, has_begun, live_count}
+use Rattle.tty_terminal.specs.Terminals.{Terminal, opening, live_count}
 use Rattle.tty_terminal.specs.Receiving.{accepts}
 use Rattle.tty_terminal.specs.Steps.{follows, after}
 use Rattle.tty_terminal.specs.Runs.{RunHas, chars_of}
@@ -30,10 +30,13 @@ use Rattle.port_cell.specs.Entries.{generation_of}
 use Rattle.port_cell.proofs.Histories.{generation_of-push}
 use Rattle.tty_port.specs.Inside.{Name, EntryWithCall}
 use Rattle.tty_port.specs.Histories.{stamped_entry, history_in, name_in}
-use Rattle.tty_port.specs.Seen.{entries_in, standing_at, marks_at, chars_at, terminal_at}
+use Rattle.tty_port.specs.Seen.{entries_in, marks_at, chars_at, terminal_at}
 use Rattle.tty_port.specs.Adding.{Adds, IsEntry}
 use Rattle.tty_port.specs.Flushing.{IsPiece, IsCaughtUp, IsWholePiece, GoesOnAt, HasNothingLeft, FlushesPiece}
 use Rattle.tty_port.specs.Lines.{MeetsFlip, EndsLine}
+use Rattle.tty_port.specs.PhaseEvents.{CanFollow, CanHappen, IsEventEntry, entry_of_event}
+use Rattle.tty_port.specs.declared.phase_events.PhaseEvent.{PhaseEvent}
+use Rattle.tty_port.specs.declared.phase_events.PhaseEvent.TheVariants.{Tick, ClockEnd, CallerEnd}
 use Rattle.tty_port.proofs.Histories.{history_entries, history_length, history_adds, port_generation, port_terminal}
 use Rattle.tty_port.proofs.Histories.{port_stands, port_marks, marks_append, entries_append, none_begun}
 use Rattle.tty_port.proofs.Keeping.{run_append}
@@ -86,38 +89,16 @@ enters m old new n who event p h is =
     (subst (λ (k : ℕ). IsEntry n who k event (last_of m old (phase_entry old who event)))
     (ap (λ (k : Marks). k.phase) (port_marks m old p)) is)
 
-pub ticks : (m : ℕ) (old new : PortValue)
+-- the entry of an event of the phase
+pub event_enters : (m : ℕ) (old new : PortValue) (event : PhaseEvent)
     → IsPort old
-    → Appends old new old.flip (phase_entry old Clock ticked)
-    → Adds (IsEntry (m + 2) Clock (marks_at (history_in m old)).phase ticked) (history_in m old) (history_in m new)
-ticks m old new p h = enters m old new (m + 2) Clock ticked p h
+    → Appends old new old.flip (entry_of_event old event)
+    → Adds (IsEventEntry m event (history_in m old) (history_in m old)) (history_in m old) (history_in m new)
+event_enters m old new Tick p h = enters m old new (m + 2) Clock ticked p h
     (record { seat = refl; who = refl; at_step = refl; at_part = refl; happened = refl; keeps = refl })
-
-pub ticks_same : (m : ℕ) (old new : PortValue)
-    → IsPort old
-    → Appends old new old.flip (phase_entry old Clock ticked)
-    → generation_of (history_in m new) ≡ generation_of (history_in m old)
-ticks_same m old new p h = appends_same m old new old.flip (phase_entry old Clock ticked) p h refl
-
-pub clock_ends : (m : ℕ) (old new : PortValue)
-    → IsPort old
-    → Appends old new old.flip (phase_entry old Clock clock_ended)
-    → Adds (IsEntry (m + 2) Clock (marks_at (history_in m old)).phase clock_ended) (history_in m old) (history_in m new)
-clock_ends m old new p h = enters m old new (m + 2) Clock clock_ended p h
+event_enters m old new ClockEnd p h = enters m old new (m + 2) Clock clock_ended p h
     (record { seat = refl; who = refl; at_step = refl; at_part = refl; happened = refl; keeps = refl })
-
-pub clock_ends_same : (m : ℕ) (old new : PortValue)
-    → IsPort old
-    → Appends old new old.flip (phase_entry old Clock clock_ended)
-    → generation_of (history_in m new) ≡ generation_of (history_in m old)
-clock_ends_same m old new p h = appends_same m old new old.flip (phase_entry old Clock clock_ended) p h refl
-
-pub caller_ends : (m : ℕ) (old new : PortValue) (c : ℕ)
-    → IsPort old
-    → Appends old new old.flip (end_entry old c)
-    → Adds (IsEntry c (Caller c) (standing_at c (history_in m old)).next caller_ended) (history_in m old)
-    (history_in m new)
-caller_ends m old new c p h =
+event_enters m old new (CallerEnd c) p h =
     adds m old new old.flip (end_entry old c) _ p h
     (record {
       seat = refl;
@@ -128,19 +109,28 @@ caller_ends m old new c p h =
       keeps = refl;
     })
 
-pub caller_ends_same : (m : ℕ) (old new : PortValue) (c : ℕ)
+pub event_leaves : (m : ℕ) (old new : PortValue) (event : PhaseEvent)
     → IsPort old
-    → Appends old new old.flip (end_entry old c)
+    → Appends old new old.flip (entry_of_event old event)
     → generation_of (history_in m new) ≡ generation_of (history_in m old)
-caller_ends_same m old new c p h = appends_same m old new old.flip (end_entry old c) p h refl
+event_leaves m old new Tick p h = appends_same m old new old.flip (phase_entry old Clock ticked) p h refl
+event_leaves m old new ClockEnd p h = appends_same m old new old.flip (phase_entry old Clock clock_ended) p h refl
+event_leaves m old new (CallerEnd c) p h = appends_same m old new old.flip (end_entry old c) p h refl
 
--- the caller of a shared port knows where line, clock and callers stand
-pub clock_open : (m : ℕ) (v : PortValue)
+-- what can follow on the history of a port can happen at it
+pub event_can_happen : (m : ℕ) (v : PortValue) (event : PhaseEvent)
     → IsPort v
-    → (marks_at (history_in m v)).clock_over ≡ false
-    → v.terminal.clock_over ≡ false
-clock_open m v p h = ap (λ (k : Marks). k.clock_over) (port_marks m v p) ∙ h
+    → CanFollow (sum v.counts) event (history_in m v)
+    → CanHappen event v
+event_can_happen m v Tick p h = ap (λ (k : Marks). k.clock_over) (port_marks m v p) ∙ h
+event_can_happen m v ClockEnd p h = ap (λ (k : Marks). k.clock_over) (port_marks m v p) ∙ h
+event_can_happen m v (CallerEnd c) p h = (
+  h.0,
+  ap (λ (s : Standing). s.over) (port_stands m v p c) ∙ h.1.not_over,
+  ap (λ (s : Standing). s.begun) (port_stands m v p c) ∙ h.1.not_begun,
+)
 
+-- the line of a shared port knows where it stands
 pub line_open : (m : ℕ) (v : PortValue)
     → IsPort v
     → (marks_at (history_in m v)).line_over ≡ false
@@ -149,18 +139,6 @@ line_open m v p h = ap (λ (k : Marks). k.line_over) (port_marks m v p) ∙ h
 
 pub line_sent : (m n : ℕ) (v : PortValue) → IsPort v → (marks_at (history_in m v)).sent ≤ n → v.terminal.sent ≤ n
 line_sent m n v p h = subst (λ (k : ℕ). k ≤ n) (sym (ap (λ (k : Marks). k.sent) (port_marks m v p))) h
-
-pub caller_open : (m c : ℕ) (v : PortValue)
-    → IsPort v
-    → (standing_at c (history_in m v)).over ≡ false
-    → (caller_at v.terminal c).over ≡ false
-caller_open m c v p h = ap (λ (s : Standing). s.over) (port_stands m v p c) ∙ h
-
-pub caller_between : (m c : ℕ) (v : PortValue)
-    → IsPort v
-    → (standing_at c (history_in m v)).begun ≡ false
-    → has_begun (caller_at v.terminal c) ≡ false
-caller_between m c v p h = ap (λ (s : Standing). s.begun) (port_stands m v p c) ∙ h
 
 -- ---- the end of a line
 

@@ -21,6 +21,9 @@ use Rattle.tty_port.specs.Seen.{entries_in, standing_at, marks_at, IsBetweenCall
 use Rattle.tty_port.specs.Placed.{ArePlaced}
 use Rattle.tty_port.specs.Adding.{IsToldCall, IsUnderWay}
 use Rattle.tty_port.specs.Flushing.{GoesOnAt}
+use Rattle.tty_port.specs.PhaseEvents.{CanFollow, maker_of, step_of}
+use Rattle.tty_port.specs.declared.phase_events.PhaseEvent.{PhaseEvent}
+use Rattle.tty_port.specs.declared.phase_events.PhaseEvent.TheVariants.{Tick, ClockEnd, CallerEnd}
 use Rattle.tty_port.proofs.Histories.{entries_append, standing_append, marks_append}
 
 pub placed_right : (m n : ℕ) (xs ys : List (Stamped EntryWithCall)) → ArePlaced m n (xs ++ ys) → ArePlaced m n ys
@@ -306,3 +309,25 @@ pub line_sent_kept : (m n : ℕ) (xs ys : List (Stamped EntryWithCall))
     → (marks_at xs).line_over ≡ false
     → (marks_at ys).sent ≡ (marks_at xs).sent
 line_sent_kept m n xs ys placed h e = (line_kept m n xs ys placed h e).count
+
+-- what an event of the phase asks of who makes it, others leave
+pub event_kept : (m n count : ℕ) (event : PhaseEvent) (xs ys : List (Stamped EntryWithCall))
+    → ArePlaced m n ys
+    → Keeps (seat_of m (maker_of event)) xs ys
+    → CanFollow count event xs
+    → CanFollow count event ys
+event_kept m n count Tick xs ys placed h can = clock_kept m n xs ys placed h can
+event_kept m n count ClockEnd xs ys placed h can = clock_kept m n xs ys placed h can
+event_kept m n count (CallerEnd c) xs ys placed h can =
+    let between = between_kept m n c (standing_at c xs).next xs ys placed h can.1 in
+    (can.0, record { next = refl; not_over = between.not_over; not_begun = between.not_begun })
+
+pub event_step_kept : (m n count : ℕ) (event : PhaseEvent) (xs ys : List (Stamped EntryWithCall))
+    → ArePlaced m n ys
+    → Keeps (seat_of m (maker_of event)) xs ys
+    → CanFollow count event xs
+    → step_of event ys ys ≡ step_of event xs ys
+event_step_kept m n count Tick xs ys placed h can = refl
+event_step_kept m n count ClockEnd xs ys placed h can = refl
+event_step_kept m n count (CallerEnd c) xs ys placed h can =
+    (between_kept m n c (standing_at c xs).next xs ys placed h can.1).next

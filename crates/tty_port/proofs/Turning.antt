@@ -6,13 +6,16 @@ use Rattle.port_cell.specs.Entries.{entries_by, Keeps, AddsBy}
 use Rattle.port_cell.specs.Knowledge.{number_of, name_of, list_seen, own_entries}
 use Rattle.port_cell.proofs.OwnEntries.{entries_by_kept, entries_by_added}
 use Rattle.tty_port.specs.Inside.{Name, EntryWithCall}
-use Rattle.tty_port.specs.Histories.{history_of, name_of as port_name}
+use Rattle.tty_port.specs.Histories.{history_of, name_of as port_name, seat_of}
 use Rattle.tty_port.specs.Placed.{IsHistoryOf, ArePlaced}
-use Rattle.tty_port.specs.Adding.{Adds}
+use Rattle.tty_port.specs.Adding.{Adds, IsEntry}
 use Rattle.tty_port.specs.Calls.{PortSeat}
 use Rattle.tty_port.specs.Lines.{MakesOne, MakesNone}
 use Rattle.tty_port.specs.Shared.{IsFound}
+use Rattle.tty_port.specs.PhaseEvents.{CanFollow, IsEventEntry, maker_of, plain_event}
+use Rattle.tty_port.specs.declared.phase_events.PhaseEvent.{PhaseEvent}
 use Rattle.tty_port.specs.declared.kept_port.KeptPort.{KeptPort}
+use Rattle.tty_port.proofs.Keeping.{event_kept, event_step_kept}
 
 pub adds_by : (n : ℕ) (P : Stamped EntryWithCall → Type 0) (old new : List (Stamped EntryWithCall))
     → ((x : Stamped EntryWithCall) → P x → x.seat ≡ n)
@@ -131,3 +134,32 @@ pub placed_now : (name : Name) (w : KeptPort) (s : PortSeat)
 placed_now name w s named h seen =
     subst (ArePlaced name.callers (sum name.counts)) (sym seen)
     (subst (λ (x : Name). ArePlaced x.callers (sum x.counts) (history_of w)) named h.placed)
+
+-- what an event of the phase asks stands at the port that its turn found
+pub event_follows : (name : Name) (event : PhaseEvent) (old : PortSeat) (v : KeptPort)
+    → IsFound name (seat_of name.callers (maker_of event)) old v
+    → CanFollow (sum name.counts) event (list_seen old)
+    → CanFollow (sum (port_name v).counts) event (history_of v)
+event_follows name event old v at can =
+    subst (λ (x : Name). CanFollow (sum x.counts) event (history_of v)) (sym at.named)
+    (event_kept name.callers (sum v.port.value.counts) (sum name.counts) event (list_seen old) (history_of v)
+    at.history.placed at.keeps can)
+
+-- the turn added its entry
+pub event_entered : (name : Name) (event : PhaseEvent) (old new : PortSeat) (v w : KeptPort)
+    → IsFound name (seat_of name.callers (maker_of event)) old v
+    → number_of old ≡ seat_of name.callers (maker_of event)
+    → number_of new ≡ number_of old
+    → list_seen new ≡ history_of w
+    → CanFollow (sum name.counts) event (list_seen old)
+    → Adds (IsEventEntry (port_name v).callers event (history_of v) (history_of v)) (history_of v) (history_of w)
+    → MakesOne (IsEventEntry name.callers event (list_seen old)) old new
+event_entered name event old new v w at was same seen can h =
+    let step = event_step_kept name.callers (sum v.port.value.counts) (sum name.counts) event (list_seen old)
+    (history_of v) at.history.placed at.keeps can in
+    makes_one (IsEventEntry name.callers event (list_seen old)) (seat_of name.callers (maker_of event)) old new
+    (history_of v) (history_of w) (λ x is. is.seat) was (same ∙ was) at.keeps
+    (subst (λ (m : ℕ). Adds (IsEventEntry m event (list_seen old) (history_of v)) (history_of v) (history_of w))
+    (ap (λ (x : Name). x.callers) at.named)
+    (subst (λ (k : ℕ). Adds (IsEntry (seat_of (port_name v).callers (maker_of event)) (maker_of event) k
+    (plain_event event)) (history_of v) (history_of w)) step h)) seen

@@ -6,6 +6,7 @@ pub mod Adding
 pub mod Calls
 pub mod Flushing
 pub mod Lines
+pub mod PhaseEvents
 pub mod Going
 pub mod Pacing
 pub mod Shared

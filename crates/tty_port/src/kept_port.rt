@@ -3,20 +3,21 @@
 ghost use Rattle.std.specs.Prelude.{◌≡◌, ◌+◌, ◌<◌, ◌≤◌, ◌^◌, true, false, IfOk};
 ghost use Rattle.std.specs.Prelude.{IfErr, OnOk, OnErr, length, sum};
 ghost use Rattle.tty_base.specs.Sizes.{MOST_ENTRIES, MOST_HANDLES};
-ghost use Rattle.tty_calls.specs.Plain.{call_of, handle_of, changes, ticked, clock_ended, caller_ended};
-ghost use Rattle.tty_calls.specs.declared.journals.Who.TheVariants.{Caller, Clock};
+ghost use Rattle.tty_calls.specs.Plain.{call_of, handle_of, changes};
 ghost use Rattle.tty_calls.specs.Limits.{byte_count};
 ghost use Rattle.tty_terminal.specs.Steps.{may_end};
 ghost use Rattle.port_core.specs.Attempts.{tried_of, Raises, IsAtOnce};
 ghost use Rattle.port_cell.specs.Entries.{generation_of, AddsBy};
-ghost use Rattle.tty_port.specs.Histories.{history_of, name_of};
-ghost use Rattle.tty_port.specs.Seen.{standing_at, marks_at, next_run, terminal_at, IsBetweenCalls};
+ghost use Rattle.tty_port.specs.Histories.{history_of, name_of, seat_of};
+ghost use Rattle.tty_port.specs.Seen.{marks_at, next_run, terminal_at};
 ghost use Rattle.tty_port.specs.Placed.{IsHistoryOf};
-ghost use Rattle.tty_port.specs.Adding.{Adds, IsEntry, IsFull, IsUnderWay, TriesCall};
+ghost use Rattle.tty_port.specs.Adding.{Adds, IsFull, IsUnderWay, TriesCall};
 ghost use Rattle.tty_port.specs.Flushing.{GoesOnAt, FlushesPiece};
 ghost use Rattle.tty_port.specs.Lines.{EndsLine};
+ghost use Rattle.tty_port.specs.PhaseEvents.{CanFollow, IsEventEntry, maker_of};
 
 use crate::names::{HistoryEntry, PortName};
+use crate::phase_events::{PhaseEvent, happen};
 use flip_buffer::FlipIn;
 use port_cell::Kept;
 use port_core::{Flushed, Port, Tried};
@@ -109,38 +110,22 @@ impl KeptPort {
         flushed
     }
 
-    /// A tenth of a second passed.
-    pub(crate) fn tick(&mut self) -> Result<(), Denied>
-        requires { (marks_at (history_of self.old)).clock_over ≡ false }
+    /// Has an event of the phase happen.
+    pub(crate) fn happen(&mut self, event: PhaseEvent) -> Result<(), Denied>
+        requires { CanFollow (sum (name_of self.old).counts) event (history_of self.old) }
         ensures name { name_of self.new ≡ name_of self.old }
         ensures ok { OnOk result (Adds
-            (IsEntry ((name_of self.old).callers + 2) Clock (marks_at (history_of self.old)).phase ticked)
+            (IsEventEntry (name_of self.old).callers event (history_of self.old) (history_of self.old))
             (history_of self.old) (history_of self.new)) }
         ensures same { OnErr result (history_of self.new ≡ history_of self.old) }
         ensures full { IfErr result (λ d. IsFull (name_of self.new) d (history_of self.new)) }
-        ensures by { AddsBy ((name_of self.old).callers + 2) (history_of self.old) (history_of self.new) }
+        ensures by { AddsBy (seat_of (name_of self.old).callers (maker_of event)) (history_of self.old)
+            (history_of self.new) }
         ensures generation { generation_of (history_of self.new) ≡ generation_of (history_of self.old) }
     {
         let port = &mut *self.port;
         port.known();
-        port.tick()
-    }
-
-    /// The clock of the phase is over.
-    pub(crate) fn clock_end(&mut self) -> Result<(), Denied>
-        requires { (marks_at (history_of self.old)).clock_over ≡ false }
-        ensures name { name_of self.new ≡ name_of self.old }
-        ensures ok { OnOk result (Adds
-            (IsEntry ((name_of self.old).callers + 2) Clock (marks_at (history_of self.old)).phase clock_ended)
-            (history_of self.old) (history_of self.new)) }
-        ensures same { OnErr result (history_of self.new ≡ history_of self.old) }
-        ensures full { IfErr result (λ d. IsFull (name_of self.new) d (history_of self.new)) }
-        ensures by { AddsBy ((name_of self.old).callers + 2) (history_of self.old) (history_of self.new) }
-        ensures generation { generation_of (history_of self.new) ≡ generation_of (history_of self.old) }
-    {
-        let port = &mut *self.port;
-        port.known();
-        port.clock_end()
+        happen(port, event)
     }
 
     /// The line of the phase is over: all that its putter put was sent.
@@ -161,24 +146,6 @@ impl KeptPort {
         let port = &mut *self.port;
         port.known();
         port.line_end(putter)
-    }
-
-    /// The calls of a caller in the phase that runs are over.
-    pub(crate) fn caller_end(&mut self, caller: u16) -> Result<(), Denied>
-        requires known { caller < sum (name_of self.old).counts }
-        requires between { IsBetweenCalls caller (standing_at caller (history_of self.old)).next (history_of self.old) }
-        ensures name { name_of self.new ≡ name_of self.old }
-        ensures ok { OnOk result (Adds
-            (IsEntry caller (Caller caller) (standing_at caller (history_of self.old)).next caller_ended)
-            (history_of self.old) (history_of self.new)) }
-        ensures same { OnErr result (history_of self.new ≡ history_of self.old) }
-        ensures full { IfErr result (λ d. IsFull (name_of self.new) d (history_of self.new)) }
-        ensures by { AddsBy caller (history_of self.old) (history_of self.new) }
-        ensures generation { generation_of (history_of self.new) ≡ generation_of (history_of self.old) }
-    {
-        let port = &mut *self.port;
-        port.known();
-        port.caller_end(caller)
     }
 
     /// Whether the phase that runs may end.

@@ -13,6 +13,7 @@ mod kept_port;
 mod laws;
 mod names;
 mod pacing;
+mod phase_events;
 mod shared;
 mod turns;
 mod waking;

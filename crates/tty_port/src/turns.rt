@@ -9,14 +9,16 @@ ghost use Rattle.port_cell.specs.Knowledge.{number_of, name_of, list_seen, own_e
 ghost use Rattle.port_cell.specs.Seats.{IsSeat, IsSameSeat, KeepsUse};
 ghost use Rattle.port_cell.specs.Lent.{value_in};
 ghost use Rattle.port_cell.specs.Views.{Knows};
-ghost use Rattle.tty_port.specs.Histories.{history_of, name_of as port_name};
+ghost use Rattle.tty_port.specs.Histories.{history_of, name_of as port_name, seat_of};
 ghost use Rattle.tty_port.specs.Seen.{standing_at, marks_at, terminal_at, IsBetweenCalls};
 ghost use Rattle.tty_port.specs.Placed.{ArePlaced};
 ghost use Rattle.tty_port.specs.Adding.{IsEntry, IsFull};
 ghost use Rattle.tty_port.specs.Lines.{MakesOne, MakesNone, EndsLine};
+ghost use Rattle.tty_port.specs.PhaseEvents.{CanFollow, IsEventEntry, maker_of};
 ghost use Rattle.tty_port.specs.Shared.{IsHere, IsFound, name_of_port, table_of};
 
 use crate::kept_port::KeptPort;
+use crate::phase_events::PhaseEvent;
 use crate::shared::{Seat, SharedPort};
 use crate::waking::Woken;
 use flip_buffer::FlipIn;
@@ -81,6 +83,25 @@ impl SharedPort {
         self.wake(woken);
     }
 
+    /// Has an event of the phase happen, in a turn of its own.
+    fn happen<R: Wait>(&self, rt: &R, seat: &mut Seat, event: PhaseEvent) -> Result<(), Denied>
+        requires seat { IsHere self.now (seat_of (name_of_port self.now).callers (maker_of event)) seat.old }
+        requires can { CanFollow (sum (name_of_port self.now).counts) event (list_seen seat.old) }
+        ensures seat { IsHere self.now (seat_of (name_of_port self.now).callers (maker_of event)) seat.new }
+        ensures references { KeepsUse seat.old seat.new }
+        ensures ok { OnOk result (MakesOne
+            (IsEventEntry (name_of_port self.now).callers event (list_seen seat.old)) seat.old seat.new) }
+        ensures placed { ArePlaced (name_of_port self.now).callers (sum (name_of_port self.now).counts)
+            (list_seen seat.new) }
+        ensures err { OnErr result (MakesNone seat.old seat.new) }
+        ensures full { IfErr result (λ d. IsFull (name_of_port self.now) d (list_seen seat.new)) }
+    {
+        let (mut turn, found) = self.begin_turn(rt, seat);
+        let result = turn.value().happen(event);
+        self.end_turn(seat, turn, found, Woken::All);
+        result
+    }
+
     /// A tenth of a second passed.
     pub fn tick<R: Wait>(&self, rt: &R, seat: &mut Seat) -> Result<(), Denied>
         requires seat { IsHere self.now ((name_of_port self.now).callers + 2) seat.old }
@@ -95,10 +116,7 @@ impl SharedPort {
         ensures err { OnErr result (MakesNone seat.old seat.new) }
         ensures full { IfErr result (λ d. IsFull (name_of_port self.now) d (list_seen seat.new)) }
     {
-        let (mut turn, found) = self.begin_turn(rt, seat);
-        let result = turn.value().tick();
-        self.end_turn(seat, turn, found, Woken::All);
-        result
+        self.happen(rt, seat, PhaseEvent::Tick)
     }
 
     /// The clock of the phase is over.
@@ -115,10 +133,7 @@ impl SharedPort {
         ensures err { OnErr result (MakesNone seat.old seat.new) }
         ensures full { IfErr result (λ d. IsFull (name_of_port self.now) d (list_seen seat.new)) }
     {
-        let (mut turn, found) = self.begin_turn(rt, seat);
-        let result = turn.value().clock_end();
-        self.end_turn(seat, turn, found, Woken::All);
-        result
+        self.happen(rt, seat, PhaseEvent::ClockEnd)
     }
 
     /// The line of the phase is over: all that its putter put was sent. Both ends of the flip buffer
@@ -164,10 +179,7 @@ impl SharedPort {
         ensures err { OnErr result (MakesNone seat.old seat.new) }
         ensures full { IfErr result (λ d. IsFull (name_of_port self.now) d (list_seen seat.new)) }
     {
-        let (mut turn, found) = self.begin_turn(rt, seat);
-        let result = turn.value().caller_end(caller);
-        self.end_turn(seat, turn, found, Woken::All);
-        result
+        self.happen(rt, seat, PhaseEvent::CallerEnd(caller))
     }
 
     /// Whether the phase that runs may end: line, clock and all its callers are over, and nothing is

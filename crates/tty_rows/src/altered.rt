@@ -346,6 +346,51 @@ hangup n61|overruns 1>hangup -|overruns 1
 = not legal port 0 entry 3
 ";
 
+/// A journal with each kind of line, among comments and blanks. Its flush has characters that were not sent.
+const EACH_KIND: &str = "tty-session 1
+ports 1
+phase
+caller a 0
+open 0 rw
+read 0 5
+write 0 6162
+getm 0
+getd 0
+counts 0
+close 0
+end
+# what happened
+journals
+journal 0 17
+*line 0 0 0 line_end 0
+a 0 0 0 answer ok
+a 1 0 0 wait
+*clock 0 0 0 tick
+*flush 0 0 0 flush n68p0Ab00f41o00
+a 1 0 0 answer 2 6869
+a 2 0 0 part 1
+a 2 1 0 answer 2 drop -
+
+a 3 0 0 answer icrnl ixon opost onlcr isig icanon echo echoe echok echoke echoctl iexten intr=3 quit=28 erase=127 \
+kill=21 eof=4 time=0 min=1 start=17 stop=19 susp=26 eol=0 reprint=18 werase=23 lnext=22 eol2=0
+a 4 0 0 answer 0 drop n41
+a 5 0 0 answer mark=0 parity=1 frame=2 break=3 cut=4 echo=5 pin=6 pout=7 pbad=8 pfull=18446744073709551615
+a 6 0 0 answer EBADF
+a 7 0 1 caller_end
+*clock 0 0 1 clock_end
+*session 0 0 1 phase_end
+*session 1 0 1 hangup -
+a 9 9 9 caller_end
+overruns 0 1
+5 4 3
+\tline 0 6 1 4
+done
+";
+
+const OF_EACH_KIND: &str = "\
+= not legal port 0 entry 4
+";
+
 /// Sets a text to these texts, with `|` for each line feed.
 fn begin(whole: &mut String, texts: &[&str]) -> Result<(), AllocError> {
     whole.clear();
@@ -387,7 +432,7 @@ fn change(alloc: Global, whole: &mut String, old: &str, new: &str) -> Result<boo
 }
 
 /// The status of what is told of journals.
-fn status_of(told: &str) -> u8 {
+fn status_beside(told: &str) -> u8 {
     match told.as_bytes().first() {
         Some(b'l') => 0,
         Some(b'n') => 7,
@@ -399,7 +444,7 @@ fn status_of(told: &str) -> u8 {
 fn is_told(alloc: Global, text: &str, line: &str) -> Result<bool, AllocError> {
     let told = told_of(alloc, &["check"], written_out(alloc, text)?)?;
     let rest = told.text.as_slice().strip_prefix(line.as_bytes());
-    Ok(told.status == status_of(line) && rest == Some(b"\n".as_slice()))
+    Ok(told.status == status_beside(line) && rest == Some(b"\n".as_slice()))
 }
 
 /// Whether a row goes well, over the text so far; what is told of it ends the text.
@@ -437,4 +482,5 @@ fn altered_journals_are_judged(rt: HostRuntime) {
     are_told(&rt, rt.alloc(), &[WAITS], OF_WAITS);
     are_told(&rt, rt.alloc(), &[ONE_OVERRUN], OF_ONE_OVERRUN);
     are_told(&rt, rt.alloc(), &[TWO_PORTS], OF_TWO_PORTS);
+    are_told(&rt, rt.alloc(), &[EACH_KIND], OF_EACH_KIND);
 }

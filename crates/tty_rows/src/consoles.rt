@@ -1,12 +1,6 @@
 //! Sessions of consoles.
 
 use super::rows::Row;
-use super::texts::written_out;
-use super::three_bytes::SESSION;
-use super::told::{told_of, told_on_threads};
-use std::alloc::{AllocError, Global};
-use std::sync::Wait;
-use std::thread::Threads;
 
 /// Keys go to the console that is active, which an operator changes.
 const KEYS_FOLLOW: Row = Row {
@@ -73,43 +67,4 @@ done
 };
 
 /// In each phase of these each console has one activity, so no schedule changes what is told.
-const ALIKE: [Row; 2] = [KEYS_FOLLOW, ROWS_SCROLL];
-
-/// What is told of a session of ports.
-const REFUSED: &str = "bad session line 1: header\n";
-
-/// Whether this is told of a text on one thread, with this status.
-fn is_told(alloc: Global, text: &str, status: u8, told: &str) -> Result<bool, AllocError> {
-    let ended = told_of(alloc, &["vt", "--one"], written_out(alloc, text)?)?;
-    Ok(ended.status == status && ended.text.as_slice() == told.as_bytes())
-}
-
-/// Whether this is told of a text on threads, with this status.
-fn is_told_on_threads<R: Threads + Wait + Sync>(
-    rt: &R,
-    alloc: Global,
-    text: &str,
-    status: u8,
-    told: &str,
-) -> Result<bool, AllocError> {
-    let ended = told_on_threads(rt, alloc, &["vt"], written_out(alloc, text)?)?;
-    Ok(ended.status == status && ended.text.as_slice() == told.as_bytes())
-}
-
-#[test]
-fn sessions_of_consoles_are_told_and_one_of_ports_is_none(rt: HostRuntime) {
-    for row in ALIKE {
-        assert!(rt; is_told(rt.alloc(), row.session, 0, row.report) == Ok(true));
-    }
-    assert!(rt; is_told(rt.alloc(), SESSION, 1, REFUSED) == Ok(true));
-}
-
-#[test]
-fn on_threads_consoles_are_told_alike(rt: HostRuntime) {
-    for row in ALIKE {
-        let told = is_told_on_threads(&rt, rt.alloc(), row.session, 0, row.report);
-        assert!(rt; told == Ok(true));
-    }
-    let told = is_told_on_threads(&rt, rt.alloc(), SESSION, 1, REFUSED);
-    assert!(rt; told == Ok(true));
-}
+pub(crate) const ROWS: [Row; 2] = [KEYS_FOLLOW, ROWS_SCROLL];

@@ -1,7 +1,7 @@
 //! The journal of three bytes with one field of an entry altered, and with two entries exchanged.
 
 use super::three_bytes::{JOURNALS, SESSION};
-use super::told::told_of;
+use super::told::status_of;
 use std::alloc::{AllocError, Global};
 
 /// The lines of the journal before its first entry, and the number of entries.
@@ -98,17 +98,11 @@ fn put_with_entry(text: &mut String, place: usize, entry: Fields) -> Result<(), 
     Ok(())
 }
 
-/// With which status a text ends.
-fn status_of(alloc: Global, text: String) -> Result<u8, AllocError> {
-    let told = told_of(alloc, &["check"], text.into_bytes())?;
-    Ok(told.status)
-}
-
 /// Whether a text with such an entry is refused, or not legal.
 fn is_wrong(alloc: Global, place: usize, entry: Fields) -> Result<bool, AllocError> {
     let mut text = String::new(alloc);
     put_with_entry(&mut text, place, entry)?;
-    let status = status_of(alloc, text)?;
+    let status = status_of(alloc, &["check"], text.into_bytes())?;
     Ok(status == 1 || status == 7)
 }
 
@@ -202,7 +196,7 @@ fn status_exchanged(
     let mut text = String::new(alloc);
     let (first, second) = (BEFORE.saturating_add(first), BEFORE.saturating_add(second));
     put_with_exchange(&mut text, lines, first, second)?;
-    status_of(alloc, text)
+    status_of(alloc, &["check"], text.into_bytes())
 }
 
 /// The first two entries that are exchanged and judged otherwise than they are to be.

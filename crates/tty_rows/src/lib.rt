@@ -26,17 +26,12 @@ mod refusals;
 #[cfg(test)]
 mod rows;
 #[cfg(test)]
-mod summaries;
-#[cfg(test)]
 mod switching;
 mod texts;
-#[cfg(test)]
-mod threads;
-#[cfg(test)]
-mod three_bytes;
+pub mod three_bytes;
 mod told;
 #[cfg(test)]
 mod waiting;
 
 pub use texts::{with_journals, written_out};
-pub use told::{PIECE, ROOM, Told, told_of, told_on_threads};
+pub use told::{Told, are_legal, sink, source, status_of, told_behind, told_of, told_on_threads};

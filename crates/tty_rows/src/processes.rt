@@ -1,9 +1,6 @@
 //! Sessions of processes.
 
 use super::rows::Row;
-use super::texts::written_out;
-use super::told::told_of;
-use std::alloc::{AllocError, Global};
 
 /// A job reads from the background, is put into the foreground, and is interrupted there.
 const FOREGROUND: Row = Row {
@@ -148,17 +145,4 @@ done
 ",
 };
 
-/// Whether this is told of a text of processes, with this status.
-fn is_told(alloc: Global, text: &str, status: u8, told: &str) -> Result<bool, AllocError> {
-    let ended = told_of(alloc, &["jobs"], written_out(alloc, text)?)?;
-    Ok(ended.status == status && ended.text.as_slice() == told.as_bytes())
-}
-
-#[test]
-fn sessions_of_processes_are_told_and_a_caller_is_a_process(rt: HostRuntime) {
-    for row in [FOREGROUND, ORPHANED, LET_GO] {
-        assert!(rt; is_told(rt.alloc(), row.session, 0, row.report) == Ok(true));
-    }
-    let stray = "tty-session 1|ports 1|phase|caller a 0|end|";
-    assert!(rt; is_told(rt.alloc(), stray, 1, "bad session line 4: order\n") == Ok(true));
-}
+pub(crate) const ROWS: [Row; 3] = [FOREGROUND, ORPHANED, LET_GO];

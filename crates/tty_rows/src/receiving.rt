@@ -1,4 +1,4 @@
-//! What a line hands over, and what input modes make of it.
+//! What a line hands over, and when it is read.
 
 use super::rows::Row;
 use super::three_bytes::REPORT;
@@ -32,37 +32,6 @@ end
     report: "port 0 line arrived=0 lost=0 sent=0 overrun=0
 port 0 input taken=0 dropped=0
 port 0 counts mark=0 parity=0 frame=0 break=0 cut=0 echo=0 pin=0 pout=0 pbad=0 pfull=0
-port 0 signals -
-port 0 generation 1
-port 0 wire -
-done
-",
-};
-
-/// Of twenty characters under a mask sixteen are kept, and a mark stands after the first.
-const LOST_IN_THE_FIFO: Row = Row {
-    session: "tty-session 1
-ports 1
-phase
-caller a 0
-open 0 rw nonblock
-modes 0 now raw
-phase
-line 0
-trigger 14
-mask
-rx 4142434445464748494a4b4c4d4e4f5051525354
-unmask
-caller a 0
-read 0 64
-end
-",
-    report: "0.a.0 open ok
-0.a.1 modes ok
-0.a.2 read 16 4142434445464748494a4b4c4d4e4f50
-port 0 line arrived=20 lost=4 sent=17 overrun=0
-port 0 input taken=17 dropped=0
-port 0 counts mark=1 parity=0 frame=0 break=0 cut=0 echo=0 pin=0 pout=0 pbad=0 pfull=0
 port 0 signals -
 port 0 generation 1
 port 0 wire -
@@ -120,6 +89,37 @@ port 1 counts mark=1 parity=0 frame=0 break=0 cut=0 echo=0 pin=0 pout=0 pbad=0 p
 port 1 signals -
 port 1 generation 1
 port 1 wire -
+done
+",
+};
+
+/// Of twenty characters under a mask sixteen are kept, and a mark stands after the first.
+const LOST_IN_THE_FIFO: Row = Row {
+    session: "tty-session 1
+ports 1
+phase
+caller a 0
+open 0 rw nonblock
+modes 0 now raw
+phase
+line 0
+trigger 14
+mask
+rx 4142434445464748494a4b4c4d4e4f5051525354
+unmask
+caller a 0
+read 0 64
+end
+",
+    report: "0.a.0 open ok
+0.a.1 modes ok
+0.a.2 read 16 4142434445464748494a4b4c4d4e4f50
+port 0 line arrived=20 lost=4 sent=17 overrun=0
+port 0 input taken=17 dropped=0
+port 0 counts mark=1 parity=0 frame=0 break=0 cut=0 echo=0 pin=0 pout=0 pbad=0 pfull=0
+port 0 signals -
+port 0 generation 1
+port 0 wire -
 done
 ",
 };
@@ -305,8 +305,8 @@ done
 pub(crate) const ROWS: [Row; 7] = [
     READ_A_PHASE_LATER,
     EMPTY_SESSION,
-    LOST_IN_THE_FIFO,
     RECEIVE_TIMEOUT,
+    LOST_IN_THE_FIFO,
     BREAKS,
     PARITY_ERRORS,
     FLAGGED_UNDER_RAW,

@@ -1,5 +1,6 @@
 //! Words, texts, sources and sinks that end a call of the program early.
 
+use super::rows::is_told;
 use super::three_bytes::{REPORT, SESSION};
 use super::told::{Told, told_of, told_through};
 use std::alloc::{AllocError, Global};
@@ -37,16 +38,11 @@ const OTHERS: [&[&str]; 11] = [
     &["gen", "4294967296"],
 ];
 
-/// Whether these words are told as bad words.
-fn are_bad(alloc: Global, words: &[&str]) -> Result<bool, AllocError> {
-    let told = told_of(alloc, words, SESSION.as_bytes().to_vec(alloc)?)?;
-    Ok(told.status == 2 && told.text.as_slice() == b"bad words\n".as_slice())
-}
-
 #[test]
 fn other_words_are_bad(rt: HostRuntime) {
     for words in OTHERS {
-        assert!(rt; are_bad(rt.alloc(), words) == Ok(true), "{words:?}");
+        let told = is_told(rt.alloc(), words, SESSION, 2, "bad words\n");
+        assert!(rt; told == Ok(true), "{words:?}");
     }
 }
 
@@ -82,16 +78,21 @@ fn sink_of(alloc: Global, writes: Vec<u32>, room: usize) -> Result<MemSink, Allo
     }
 }
 
-/// What is told of three bytes where such a read fails.
-fn told_behind_read(alloc: Global, read: u32) -> Result<Told, AllocError> {
-    let mut source = source_of(alloc, vec![in alloc; read]?)?;
-    let mut sink = sink_of(alloc, Vec::new(alloc), ROOM)?;
+/// What is told of three bytes where these reads and writes fail, and the sink has room for so many bytes.
+fn told_with(
+    alloc: Global,
+    reads: Vec<u32>,
+    writes: Vec<u32>,
+    room: usize,
+) -> Result<Told, AllocError> {
+    let mut source = source_of(alloc, reads)?;
+    let mut sink = sink_of(alloc, writes, room)?;
     told_through(alloc, &ONE, &mut source, &mut sink)
 }
 
 /// Whether a source that fails at a read is told so. The last of these reads is not made.
 fn is_read_fault(alloc: Global, read: u32) -> Result<bool, AllocError> {
-    let told = told_behind_read(alloc, read)?;
+    let told = told_with(alloc, vec![in alloc; read]?, Vec::new(alloc), ROOM)?;
     let text = told.text.as_slice();
     let is_fault = told.status == 3 && text == b"read fault\n".as_slice();
     let is_whole = told.status == 0 && text == REPORT.as_bytes();
@@ -108,13 +109,6 @@ fn a_source_that_fails_is_told_at_each_read(rt: HostRuntime) {
     }
 }
 
-/// What is told of three bytes where these writes fail, and the sink has room for so many bytes.
-fn told_within(alloc: Global, writes: Vec<u32>, room: usize) -> Result<Told, AllocError> {
-    let mut sink = sink_of(alloc, writes, room)?;
-    let mut source = source_of(alloc, Vec::new(alloc))?;
-    told_through(alloc, &ONE, &mut source, &mut sink)
-}
-
 /// Whether a write fault is told, and so many bytes of the report were given.
 fn has_front(told: &Told, length: usize) -> bool {
     told.status == 4 && REPORT.as_bytes().get(..length) == Some(told.text.as_slice())
@@ -122,13 +116,13 @@ fn has_front(told: &Told, length: usize) -> bool {
 
 /// Whether a sink that fails at a write has the front of the report.
 fn has_front_at(alloc: Global, write: u32) -> Result<bool, AllocError> {
-    let told = told_within(alloc, vec![in alloc; write]?, ROOM)?;
+    let told = told_with(alloc, Vec::new(alloc), vec![in alloc; write]?, ROOM)?;
     Ok(has_front(&told, (write as usize).saturating_mul(PIECE)))
 }
 
 /// Whether a sink that has room for so many bytes has the front of the report.
 fn has_front_of(alloc: Global, room: usize) -> Result<bool, AllocError> {
-    let told = told_within(alloc, Vec::new(alloc), room)?;
+    let told = told_with(alloc, Vec::new(alloc), Vec::new(alloc), room)?;
     Ok(has_front(&told, room))
 }
 

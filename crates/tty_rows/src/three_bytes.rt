@@ -1,6 +1,6 @@
 //! Three bytes that are read, and a port that is closed: the session, its report and its journal.
 
-pub(crate) const SESSION: &str = "tty-session 1
+pub const SESSION: &str = "tty-session 1
 ports 1
 phase
 caller a 0
@@ -15,7 +15,7 @@ close 0
 end
 ";
 
-pub(crate) const REPORT: &str = "0.a.0 open ok
+pub const REPORT: &str = "0.a.0 open ok
 0.a.1 modes ok
 0.a.2 read 3 68690a
 0.a.3 close ok
@@ -28,7 +28,7 @@ port 0 wire -
 done
 ";
 
-pub(crate) const JOURNALS: &str = "journals
+pub const JOURNALS: &str = "journals
 journal 0 14
 *line 0 0 0 line_end 0
 a 0 0 0 answer ok

@@ -10,9 +10,8 @@ use Rattle.tty_one.specs.Reported.{Returned}
 use Rattle.tty_one.specs.Outcome.{IsBroken, breaks_words, breaks_fault, breaks_long}
 use Rattle.tty_one.specs.Outcome.{breaks_refusal, breaks_text, breaks_verdict, IsDone, IsToldBy, WasGiven}
 use Rattle.tty_one.specs.Works.{CanEndWith, ReadsNothing}
-use Rattle.tty_one.proofs.Outcomes.{not_modem_and_run, not_modem_and_vt}
-use Rattle.tty_one.proofs.Outcomes.{not_jobs_and_run, not_jobs_and_vt, not_vt_and_run, one_if_not_on_threads}
-use Rattle.tty_one.proofs.Outcomes.{run_is_not_one, vt_is_not_one}
+use Rattle.tty_one.proofs.AskedWords.{not_modem_and_run, not_modem_and_vt, not_jobs_and_run, not_jobs_and_vt}
+use Rattle.tty_one.proofs.AskedWords.{not_vt_and_run, one_if_not_on_threads, run_is_not_one, vt_is_not_one}
 use Rattle.tty_run.specs.Headline.{AreConsolesToldOnThreads, IsPlayedOnThreads}
 
 -- ---- other words than those of threads

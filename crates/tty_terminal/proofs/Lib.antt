@@ -8,7 +8,6 @@ pub mod Grown
 pub mod HangupLaws
 pub mod HappenedLaws
 pub mod InPlace
-pub mod LiveLaws
 pub mod MarkLaws
 pub mod OneRun
 pub mod QuestionLemmas

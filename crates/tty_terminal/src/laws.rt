@@ -152,8 +152,7 @@ pub fn a_part_takes_some_and_leaves_some()
         → s.taken + n < byte_count call }
 {}
 
-/// The generation rises by one at each change of the discipline, each last close and each hangup, and
-/// at nothing else.
+/// The generation rises by one at each change of the discipline, each last close and each hangup, and at nothing else.
 pub fn generations_are_counted()
     ensures { (f : ℕ → ℕ → Option PlainCall) (counts : List ℕ) (t : Terminal) (e : PlainEntry)
         → Allowed f counts t e

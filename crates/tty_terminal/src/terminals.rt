@@ -25,10 +25,9 @@ use tty_base::{Flagged, NoMemory};
 use tty_calls::{Call, PortEnd};
 use tty_modes::Modes;
 
-/// The one-thread terminal: a port's line discipline with its modes, its output and what it counted,
-/// its handles, and where its callers stand. Contracts see it as the record `Terminal`, with the room
-/// that is reserved for bytes on the wire and for signals. Only `new`, `reserve` and `make_room` take
-/// memory.
+/// The one-thread terminal: a port's line discipline with its modes, its output and what it counted, its handles, and
+/// where its callers stand. Contracts see it as the record `Terminal`, with the room that is reserved for bytes on the
+/// wire and for signals. Only `new`, `reserve` and `make_room` take memory.
 #[derive(Drop)]
 pub struct Terminal {
     disc: Disc,
@@ -274,8 +273,7 @@ impl Terminal {
         );
     }
 
-    /// A part of the caller's write on the handle `h` was taken, of so many bytes, under the terminal
-    /// before that part.
+    /// A part of the caller's write on the handle `h` was taken, of so many bytes, under the terminal before that part.
     pub fn note_part(&mut self, caller: u16, h: u8, count: u32)
         requires known { caller < length self.old.terminal.callers }
         requires number { h < MOST_HANDLES }
@@ -378,8 +376,7 @@ impl Terminal {
         self.taken == self.sent || self.handles.live() == 0 || !self.accepts()
     }
 
-    /// Whether nothing can happen any more but that waiting calls are told so, where the phase has so
-    /// many callers.
+    /// Whether nothing can happen any more but that waiting calls are told so, where the phase has so many callers.
     pub fn is_quiet(&self, callers: u8) -> bool
         ensures { result ≡ quiet_with callers self.now.terminal }
     {

@@ -2,7 +2,7 @@
 
 ghost use Rattle.std.specs.Prelude.{◌≡◌, ◌<◌, ◌≤◌, [], length, IfOk, IfErr, OnOk, OnErr};
 ghost use Rattle.tty_base.specs.Sizes.{MOST_CONSOLES, MOST_ENTRIES, MOST_SENT};
-ghost use Rattle.vt_consoles.specs.Runs.{NamesRightly, active_after as active_behind};
+ghost use Rattle.vt_consoles.specs.Runs.{NamesRightly};
 ghost use Rattle.vt_consoles.specs.Boards.{IsBoard, Adds, IsDenied, active_on};
 ghost use Rattle.vt_consoles.specs.Faults.{IsRefusedCall};
 ghost use Rattle.vt_consoles.specs.Keys.{CanPut, GoesTo, PutsAndPushes, key_character};
@@ -148,19 +148,9 @@ impl Board {
             return Err(Denied::Full);
         }
         reserve_one(&mut self.entries)?;
-        self.active = active_after(self.active, event);
+        self.active = event.active_after(self.active);
         self.entries.add(VtEntry { seat, event });
         Ok(())
-    }
-}
-
-/// Which console is active after an event.
-fn active_after(active: u8, event: VtEvent) -> u8
-    ensures { result ≡ active_behind active event }
-{
-    match event {
-        VtEvent::Activate(n) => n,
-        VtEvent::State(_) | VtEvent::Key { .. } => active,
     }
 }
 

@@ -1,5 +1,8 @@
 //! What a board tells.
 
+ghost use Rattle.std.specs.Prelude.{◌≡◌};
+ghost use Rattle.vt_consoles.specs.Runs.{active_after as active_behind};
+
 use tty_base::Full;
 use tty_calls::Denied;
 
@@ -12,6 +15,18 @@ pub enum VtEvent {
     State(u8),
     /// The key with this index, counted from 0, went to this console.
     Key { index: u32, console: u8 },
+}
+
+impl VtEvent {
+    /// Which console is active after the event, where this one is active before it.
+    pub fn active_after(self, active: u8) -> u8
+        ensures { result ≡ active_behind active self }
+    {
+        match self {
+            VtEvent::Activate(n) => n,
+            VtEvent::State(_) | VtEvent::Key { .. } => active,
+        }
+    }
 }
 
 /// An entry of a board: the number of the seat that made it, and what happened.

@@ -1,7 +1,7 @@
 //! The lines of a console, and which one is active.
 
 ghost use Rattle.std.specs.Prelude.{◌≡◌, ◌++◌, OnOk, string_bytes};
-ghost use Rattle.vt_consoles.specs.Runs.{active_after, active_of};
+ghost use Rattle.vt_consoles.specs.Runs.{active_of};
 ghost use Rattle.vt_print.specs.Consoles.{active_line, console_text, is_key_to, keys_to, tally_line};
 
 use crate::rows::{put_rows, screen_of};
@@ -89,16 +89,7 @@ fn active_of(entries: &[VtEntry]) -> u8
 {
     let mut active = 0;
     for entry in entries {
-        active = active_after(active, &entry.event);
+        active = entry.event.active_after(active);
     }
     active
-}
-
-fn active_after(active: u8, event: &VtEvent) -> u8
-    ensures { result ≡ active_after active event.now }
-{
-    match event {
-        VtEvent::Activate(n) => *n,
-        VtEvent::State(_) | VtEvent::Key { .. } => active,
-    }
 }

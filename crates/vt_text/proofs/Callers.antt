@@ -31,7 +31,7 @@ use Rattle.vt_text.specs.Items.{activate_fault, state_fault, with_keys, with_ope
 use Rattle.vt_text.specs.Reading.{bad, ◌>>=◌, unless, after_session_item, is_header, after_header, spend}
 use Rattle.vt_text.specs.Reading.{after_border, after_call, after_verb, after_item, after_line, vt_from, vt_in}
 use Rattle.vt_text.proofs.Joined.{AreWords, AreLines, lines_again, text_words}
-use Rattle.vt_text.proofs.Limits.{ok_same, ports_word, header_word, unless_none}
+use Rattle.vt_text.proofs.LineLimits.{ok_same, ports_word, header_word, unless_none}
 
 -- what is left of lines reads as this session, whatever their numbers
 abbrev Later : PlainReading → List (List (List ℕ)) → PlainSession → Type 0

@@ -3,19 +3,10 @@ use Rattle.std.specs.Prelude.{ℕ, true, List, [], ◌∷◌, ◌++◌, codes}
 use Rattle.tty_calls.specs.declared.calls.Access.TheVariants.{Rw}
 use Rattle.tty_calls.specs.Plain.{opens, reads, counts_input}
 use Rattle.tty_calls.specs.Sessions.{PlainScript, PlainPhase}
-use Rattle.session_text.specs.declared.faults.Reason.{Reason}
 use Rattle.session_text.specs.declared.faults.Reason.TheVariants.{Header, Word, Number, Hex, Order, Limit}
-use Rattle.session_text.specs.declared.faults.BadLine.{BadLine}
 use Rattle.vt_text.specs.declared.sessions.OpCall.TheVariants as op
 use Rattle.vt_text.specs.Sessions.{PlainVtSession}
-
--- a text, its first wrong line, and why that line is wrong
-pub record RefusedRow : Type 0 where
-  pub text : List ℕ
-  pub line : BadLine
-
-abbrev pub refused_at : ℕ → Reason → List ℕ → RefusedRow
-refused_at line reason text = record { text = text; line = record { line = line; reason = reason } }
+use Rattle.session_text.specs.Rows.{RefusedRow, refused_at}
 
 -- a text that begins well, with one console; the next line is its third
 abbrev pub one_console : List ℕ → List ℕ
@@ -66,8 +57,9 @@ refused_rows =
     refused_at 5 Order (in_phase (codes "operator o\noperator o\n")) ∷
     refused_at 5 Word (in_phase (codes "operator o\noperator\n")) ∷
     refused_at 20 Limit
-    (in_phase (codes
-    "operator a\noperator b\noperator c\noperator d\noperator e\noperator f\noperator g\noperator h\noperator i\noperator j\noperator k\noperator l\noperator m\noperator n\noperator o\noperator p\noperator q\n"))
+    (in_phase (codes "operator a\noperator b\noperator c\noperator d\noperator e\noperator f\noperator g\n"
+    ++ codes "operator h\noperator i\noperator j\noperator k\noperator l\noperator m\noperator n\n"
+    ++ codes "operator o\noperator p\noperator q\n"))
     ∷
     refused_at 4 Order (in_phase (codes "activate 0\n")) ∷
     refused_at 4 Order (in_phase (codes "state 0\n")) ∷
@@ -93,10 +85,12 @@ refused_rows =
 
 abbrev pub two_consoles_text : List ℕ
 two_consoles_text =
-    codes
-    "vt-session 1\nconsoles 2\nphase\ncaller a 0\nopen 0 rw nonblock\ncaller a 1\nopen 0 rw nonblock\nphase\nkeys 6869\n"
-    ++ codes
-    "phase\noperator o\nactivate 1\nstate\nphase\nkeys 6a\n# more keys\nkeys 0d\nphase\ncaller a 0\ninq 0\ncaller a 1\nread 0 64\nend\n"
+    codes "vt-session 1\nconsoles 2\n"
+    ++ codes "phase\ncaller a 0\nopen 0 rw nonblock\ncaller a 1\nopen 0 rw nonblock\n"
+    ++ codes "phase\nkeys 6869\n"
+    ++ codes "phase\noperator o\nactivate 1\nstate\n"
+    ++ codes "phase\nkeys 6a\n# more keys\nkeys 0d\n"
+    ++ codes "phase\ncaller a 0\ninq 0\ncaller a 1\nread 0 64\nend\n"
 
 abbrev pub phase_with : List PlainScript → PlainPhase
 phase_with callers = record { lines = [] ∷ [] ∷ []; ticks = 0 ∷ 0 ∷ []; callers = callers }

@@ -1,46 +1,37 @@
--- Each step on a ring keeps its rule.
+-- Loads and stores on a ring keep its rule, and a new ring has it.
 use Rattle.std.proofs.Common.{◌≡◌, ◌≢◌, ℕ, ◌+◌, ◌/◌, ◌%◌, ◌<◌, ◌≤◌, true, false, List, [], ◌∷◌, ◌++◌, length, take}
 use Rattle.std.proofs.Common.{drop, get_or, set, replicate, All, Contains, inl, inr, ⊎_elim, refl, sym, ap, ◌∙◌}
-use Rattle.std.proofs.Common.{subst, arith, length-append, length-take, length-set, get_or-set_same, get_or-set_other}
+use Rattle.std.proofs.Common.{subst, arith, length-take, length-set, get_or-set_same, get_or-set_other}
 use mathlib.Core.List.{IsPrefix}
 use mathlib.Core.Option.{none, some-ne-none}
-use Rattle.std.proofs.lemmas.Bool.{cases_lt, false≢true}
+use Rattle.std.proofs.lemmas.Bool.{cases_lt}
 use Rattle.std.proofs.lemmas.List.{set-get_or, get_or-take, length-replicate, get_or-replicate}
 use Rattle.std.proofs.lemmas.List.Elements.{All-push, Contains-append_right}
 use Rattle.std.proofs.Math.ListN.{get_or-append}
-use Rattle.atomic_table.specs.Table.{State, Me, step, Act, keeps, opening, Allows, Splits, Joins}
+use Rattle.atomic_table.specs.Table.{State, Me, step, keeps, opening, Allows}
 use Rattle.word_ring.specs.declared.table.View.{View}
 use Rattle.word_ring.specs.Ends.{IsOneWithin, AreReleased, IsReleased}
 use Rattle.word_ring.specs.Lanes.{lane, lanes, whole_words}
-use Rattle.word_ring.specs.Plays.{blank_view, both_ends, with_head, with_written, with_all_pushed}
-use Rattle.word_ring.specs.Plays.{with_tail, with_read, with_taken_to, with_put_past, with_taken_past}
-use Rattle.word_ring.specs.Plays.{held, TakesSlot, LoadsHead, StoresLanes, StoresTail, LoadsTail}
-use Rattle.word_ring.specs.Plays.{LoadsLanes, StoresHead, Compares, PutsPast, TakesPast, putter_of}
-use Rattle.word_ring.specs.Plays.{taker_of, note_of, head_note_of, with_note, with_head_note, with_putter}
+use Rattle.word_ring.specs.Plays.{both_ends, with_head, with_written, with_all_pushed}
+use Rattle.word_ring.specs.Plays.{with_tail, with_read, with_taken_to}
+use Rattle.word_ring.specs.Plays.{LoadsHead, StoresLanes, StoresTail, LoadsTail}
+use Rattle.word_ring.specs.Plays.{LoadsLanes, StoresHead, Compares}
 use Rattle.word_ring.specs.Rule.{Story, KnowsPuts, KnowsTakes, Knows, Slot, StandsInLane, Ring, place}
-use Rattle.word_ring.proofs.Beginnings.{begins_itself, begins_more, begins_through, begins_length}
-use Rattle.word_ring.proofs.Beginnings.{begins_longer, begins_take, begins_at, begins_from, begins_whole}
+use Rattle.word_ring.proofs.Beginnings.{begins_itself, begins_through, begins_length}
+use Rattle.word_ring.proofs.Beginnings.{begins_longer, begins_take, begins_at, begins_from}
 use Rattle.word_ring.proofs.Reading.{rest_long, rest_at}
 use Rattle.word_ring.proofs.Released.{released_more, released_push, below_more, released_below}
-use Rattle.word_ring.proofs.Seats.{GoesOn, knows_on, knows_nothing, Each, each_set, each_end, known_before, each_join}
+use Rattle.word_ring.proofs.Seats.{GoesOn, knows_on, each_set, each_end}
 use Rattle.word_ring.proofs.Standing.{place_below, stands_index, stands_above, stands_lanes}
 
-abbrev M : Type 0
-M = Me Slot View
+abbrev pub Seat : Type 0
+Seat = Me Slot View
 
-abbrev St : Type 0
-St = State Slot View
-
--- what was pushed, released and taken is the same
-stays_on : (g g' : Story) → g.pushed ≡ g'.pushed → g.released ≡ g'.released → g.taken ≡ g'.taken → GoesOn g g'
-stays_on g g' pushed released taken = record {
-  pushed = subst (λ (z : List ℕ). IsPrefix g.pushed z) pushed (begins_itself g.pushed);
-  released = λ hs a. subst (λ (z : List ℕ). AreReleased z hs) released a;
-  taken = omega (arith, ap length taken);
-}
+abbrev pub RingState : Type 0
+RingState = State Slot View
 
 -- a load changes one view alone
-loaded : (n : ℕ) (s : St) (r : Ring n s) (i id : ℕ) (w : View)
+loaded : (n : ℕ) (s : RingState) (r : Ring n s) (i id : ℕ) (w : View)
     → Knows n r.story id w
     → Ring n record { words = set s.words i (get_or s.words i 0); homes = s.homes; views = set s.views id w }
 loaded n s r i id w known = subst
@@ -61,7 +52,7 @@ loaded n s r i id w known = subst
       each = each_set n r.story r.story s.views id w r.each known (λ seat v apart k. k);
     }
 
-pub loads_head : (n slots id : ℕ) (me : M)
+pub loads_head : (n slots id : ℕ) (me : Seat)
     → me.0.puts ≡ true
     → Allows (Ring n) slots id me 0 (λ x. x) (LoadsHead (step slots 0 0 0 none) me)
 loads_head n slots id me puts s r _ here _ =
@@ -105,7 +96,7 @@ loads_head n slots id me puts s r _ here _ =
     let all = begins_length g.pushed g.written r.pushed in
     (w, keeps, tt, loaded n s r 0 id w known, (refl, refl, omega arith, omega arith, omega arith))
 
-pub stores_lanes : (n slots id : ℕ) (me : M) (at word k : ℕ)
+pub stores_lanes : (n slots id : ℕ) (me : Seat) (at word k : ℕ)
     → me.0.puts ≡ true
     → at ≡ place me.0.puts_within (length me.0.written / 4)
     → 1 < at
@@ -129,7 +120,8 @@ stores_lanes n slots id me at word k puts at_is inner few goes_on fits s r _ her
     let head = k'.head in
     let room : length xs ≤ length g.taken + n = omega arith in
     let stands : g.passing ≡ false → StandsInLane n (set s.words at word) (length g.taken) xs = λ still.
-    subst (λ (z : List ℕ). StandsInLane n (set s.words at word) (length g.taken) (whole_words z ++ lanes word k)) (sym same)
+    subst (λ (z : List ℕ). StandsInLane n (set s.words at word) (length g.taken) (whole_words z ++ lanes word k))
+    (sym same)
     (stands_lanes n s.words (length g.taken) g.written at word k place_is (omega arith) few
     (subst (λ (z : List ℕ). IsPrefix g.written (whole_words z ++ lanes word k)) same further)
     (subst (λ (z : List ℕ). length (whole_words z ++ lanes word k) ≤ length g.taken + n) same room) (r.stands still)) in
@@ -195,7 +187,7 @@ stores_lanes n slots id me at word k puts at_is inner few goes_on fits s r _ her
       (refl, refl),
     )
 
-pub stores_tail : (n slots id : ℕ) (me : M) (x : ℕ)
+pub stores_tail : (n slots id : ℕ) (me : Seat) (x : ℕ)
     → me.0.puts ≡ true
     → x ≡ length me.0.written
     → Allows (Ring n) slots id me 1 (λ _. x) (λ _. StoresTail (step slots 1 x 0 none) me x)
@@ -269,7 +261,7 @@ stores_tail n slots id me x puts x_is s r _ here _ =
       (refl, refl),
     )
 
-pub loads_tail : (n slots id : ℕ) (me : M)
+pub loads_tail : (n slots id : ℕ) (me : Seat)
     → me.0.takes ≡ true
     → Allows (Ring n) slots id me 1 (λ x. x) (LoadsTail (step slots 1 0 0 none) me)
 loads_tail n slots id me takes s r _ here _ =
@@ -344,7 +336,7 @@ read_on n words head read pushed written at tail stands reads pushes at_is low m
     ∙ (stands i (omega arith) (omega arith) ∙ sym (begins_at pushed written pushes i (omega arith)))))
     (cases_lt i (length read)))
 
-pub loads_lanes : (n slots id : ℕ) (me : M) (at : ℕ)
+pub loads_lanes : (n slots id : ℕ) (me : Seat) (at : ℕ)
     → me.0.takes ≡ true
     → me.0.passing ≡ false
     → at ≡ place me.0.takes_within (length me.0.read / 4)
@@ -397,7 +389,7 @@ loads_lanes n slots id me at takes still at_is more s r _ here _ =
     subst (λ (z : List ℕ). IsPrefix xs z) (sym (k.puts is).pushed) reads in
     (w, keeps, tt, loaded n s r at id w known, (refl, refl, longer, pushed))
 
-pub stores_head : (n slots id : ℕ) (me : M) (x : ℕ)
+pub stores_head : (n slots id : ℕ) (me : Seat) (x : ℕ)
     → me.0.takes ≡ true
     → length me.0.taken ≤ x
     → x ≤ length me.0.read
@@ -481,7 +473,7 @@ stores_head n slots id me x takes low high s r _ here _ =
       (refl, refl),
     )
 
-pub compares : (n slots id : ℕ) (me : M)
+pub compares : (n slots id : ℕ) (me : Seat)
     → me.0.takes ≡ true
     → Allows (Ring n) slots id me 0 (λ x. x) (Compares (step slots 0 0 0 none) me)
 compares n slots id me takes s r _ here _ =
@@ -510,271 +502,6 @@ compares n slots id me takes s r _ here _ =
         )),
       ),
     )
-
--- the views alone change
-viewed : (n : ℕ) (s : St) (r : Ring n s) (g' : Story) (views : List View)
-    → g'.written ≡ r.story.written
-    → g'.pushed ≡ r.story.pushed
-    → g'.taken ≡ r.story.taken
-    → g'.released ≡ r.story.released
-    → g'.out ≡ r.story.out
-    → g'.passing ≡ r.story.passing
-    → (g'.passing ≡ true → g'.putter ≡ g'.taker)
-    → Each n g' views
-    → Ring n record { words = s.words; homes = s.homes; views = views }
-viewed n s r g' views written pushed taken released out passing one each = record {
-  story = g';
-  wide = r.wide;
-  head = r.head ∙ ap length (sym taken);
-  tail = r.tail ∙ ap length (sym pushed);
-  taken = subst (λ (z : List ℕ × List ℕ). IsPrefix z.0 z.1) (λ i. (sym taken i, sym pushed i)) r.taken;
-  pushed = subst (λ (z : List ℕ × List ℕ). IsPrefix z.0 z.1) (λ i. (sym pushed i, sym written i)) r.pushed;
-  fits = subst (λ (z : List ℕ × List ℕ). length z.0 ≤ length z.1 + n) (λ i. (sym written i, sym taken i)) r.fits;
-  stands = λ still. subst (λ (z : List ℕ × List ℕ). StandsInLane n s.words (length z.0) z.1)
-      (λ i. (sym taken i, sym written i)) (r.stands (sym passing ∙ still));
-  one = one;
-  released =
-      subst (λ (z : List ℕ × List ℕ). All (λ h. h ≤ length z.0) z.1) (λ i. (sym taken i, sym released i)) r.released;
-  last = subst (λ (z : List ℕ × List ℕ). IsReleased z.1 (length z.0)) (λ i. (sym taken i, sym released i)) r.last;
-  home = λ is. r.home (sym out ∙ is);
-  each = each;
-}
-
-pub notes : (n id : ℕ) (v : View) → v.puts ≡ true → Splits (Ring n) id v v (note_of v)
-notes n id v puts s r here =
-    let g : Story = r.story in
-    let k : Knows n g id v = r.each id v here in
-    let p : KnowsPuts n g id v = k.puts puts in
-    let views : List View = set s.views id v in
-    let pushed_is : length v.pushed ≡ length g.pushed = ap length p.pushed in
-    let known : Knows n g (length views) (note_of v) = record {
-      noted = subst (λ (z : List ℕ). IsPrefix z g.pushed) (sym p.pushed) (begins_itself g.pushed);
-      noted_heads = p.heads;
-      head = omega arith;
-      tail = omega arith;
-      puts = λ is. absurd (false≢true is);
-      takes = λ is. absurd (false≢true is);
-    } in
-    viewed n s r g (views ++ note_of v ∷ []) refl refl refl refl refl refl r.one
-    (each_end n g views (note_of v) (each_set n g g s.views id v r.each k (λ seat u apart old. old)) known)
-
-pub notes_head : (n id : ℕ) (v : View) → v.takes ≡ true → Splits (Ring n) id v v (head_note_of v)
-notes_head n id v takes s r here =
-    let g : Story = r.story in
-    let k : Knows n g id v = r.each id v here in
-    let t : KnowsTakes n g id v = k.takes takes in
-    let views : List View = set s.views id v in
-    let taken_is : length v.taken ≡ length g.taken = ap length t.taken in
-    let known : Knows n g (length views) (head_note_of v) = record {
-      noted = (g.pushed, refl);
-      noted_heads = λ i d lt. absurd (omega arith);
-      head = omega arith;
-      tail = omega arith;
-      puts = λ is. absurd (false≢true is);
-      takes = λ is. absurd (false≢true is);
-    } in
-    viewed n s r g (views ++ head_note_of v ∷ []) refl refl refl refl refl refl r.one
-    (each_end n g views (head_note_of v) (each_set n g g s.views id v r.each k (λ seat u apart old. old)) known)
-
-pub parts : (n id : ℕ) (v : View)
-    → v.puts ≡ true
-    → v.takes ≡ true
-    → v.passing ≡ false
-    → Splits (Ring n) id v (taker_of v) (putter_of v)
-parts n id v puts takes still s r here =
-    let g : Story = r.story in
-    let k : Knows n g id v = r.each id v here in
-    let p : KnowsPuts n g id v = k.puts puts in
-    let t : KnowsTakes n g id v = k.takes takes in
-    let views : List View = set s.views id (taker_of v) in
-    let g' : Story = record g { putter = length views } in
-    let on_ : GoesOn g g' = stays_on g g' refl refl refl in
-    let left : Knows n g' id (taker_of v) = record {
-      noted = k.noted;
-      noted_heads = k.noted_heads;
-      head = k.head;
-      tail = k.tail;
-      puts = λ is. absurd (false≢true is);
-      takes = λ is. record {
-        at = t.at;
-        capacity = t.capacity;
-        taken = t.taken;
-        released = t.released;
-        begins = t.begins;
-        read = t.read;
-        known = t.known;
-        out = t.out;
-        passing = t.passing;
-      };
-    } in
-    let right : Knows n g' (length views) (putter_of v) = record {
-      noted = k.noted;
-      noted_heads = k.noted_heads;
-      head = k.head;
-      tail = k.tail;
-      puts = λ is. record {
-        at = refl;
-        capacity = p.capacity;
-        written = p.written;
-        pushed = p.pushed;
-        heads = p.heads;
-        passing = p.passing;
-      };
-      takes = λ is. absurd (false≢true is);
-    } in
-    let on : (seat : ℕ) (u : View) → seat ≢ id → Knows n g seat u → Knows n g' seat u = λ seat u apart old.
-    knows_on n g g' seat u on_
-    (λ q. absurd (apart (q.at ∙ sym p.at)))
-    (λ q. record {
-      at = q.at;
-      capacity = q.capacity;
-      taken = q.taken;
-      released = q.released;
-      begins = q.begins;
-      read = q.read;
-      known = q.known;
-      out = q.out;
-      passing = q.passing;
-    }) old in
-    viewed n s r g' (views ++ putter_of v ∷ []) refl refl refl refl refl refl
-    (λ is. absurd (false≢true (sym still ∙ (p.passing ∙ is))))
-    (each_end n g' views (putter_of v) (each_set n g g' s.views id (taker_of v) r.each left on) right)
-
-pub meets : (n id other : ℕ) (v w : View) → Joins (Ring n) id v other w (with_note v w) blank_view
-meets n id other v w s r here apart there =
-    let g : Story = r.story in
-    let k : Knows n g id v = r.each id v here in
-    let o : Knows n g other w = known_before n g s.views id other (with_note v w) w r.each apart there in
-    let mine = k.tail in
-    let theirs = o.tail in
-    let known : Knows n g id (with_note v w) = record {
-      noted = o.noted;
-      noted_heads = o.noted_heads;
-      head = k.head;
-      tail = omega arith;
-      puts = λ is. (let p = k.puts is in
-          record {
-            at = p.at;
-            capacity = p.capacity;
-            written = p.written;
-            pushed = p.pushed;
-            heads = p.heads;
-            passing = p.passing;
-          });
-      takes = λ is. (
-          let t = k.takes is in
-          let bound = t.known in
-          let within = begins_length v.taken v.read t.begins in
-          record {
-            at = t.at;
-            capacity = t.capacity;
-            taken = t.taken;
-            released = t.released;
-            begins = begins_itself v.taken;
-            read = begins_through v.taken v.read g.pushed t.begins t.read;
-            known = omega arith;
-            out = t.out;
-            passing = t.passing;
-          }
-          );
-    } in
-    viewed n s r g (set (set s.views id (with_note v w)) other blank_view) refl refl refl refl refl refl r.one
-    (each_join n g g s.views id other (with_note v w) r.each known (λ seat u a b old. old))
-
-pub meets_head : (n id other : ℕ) (v w : View) → Joins (Ring n) id v other w (with_head_note v w) blank_view
-meets_head n id other v w s r here apart there =
-    let g : Story = r.story in
-    let k : Knows n g id v = r.each id v here in
-    let o : Knows n g other w = known_before n g s.views id other (with_head_note v w) w r.each apart there in
-    let mine = k.head in
-    let theirs = o.head in
-    let known : Knows n g id (with_head_note v w) = record {
-      noted = k.noted;
-      noted_heads = k.noted_heads;
-      head = omega arith;
-      tail = k.tail;
-      puts = λ is. (let p = k.puts is in
-          record {
-            at = p.at;
-            capacity = p.capacity;
-            written = p.written;
-            pushed = p.pushed;
-            heads = p.heads;
-            passing = p.passing;
-          });
-      takes = λ is. (let t = k.takes is in
-          record {
-            at = t.at;
-            capacity = t.capacity;
-            taken = t.taken;
-            released = t.released;
-            begins = t.begins;
-            read = t.read;
-            known = t.known;
-            out = t.out;
-            passing = t.passing;
-          });
-    } in
-    viewed n s r g (set (set s.views id (with_head_note v w)) other blank_view) refl refl refl refl refl refl r.one
-    (each_join n g g s.views id other (with_head_note v w) r.each known (λ seat u a b old. old))
-
-pub ends : (n id other : ℕ) (v w : View)
-    → v.takes ≡ true
-    → w.puts ≡ true
-    → Joins (Ring n) id v other w (with_putter v w) blank_view
-ends n id other v w takes puts s r here apart there =
-    let g : Story = r.story in
-    let k : Knows n g id v = r.each id v here in
-    let t : KnowsTakes n g id v = k.takes takes in
-    let o : Knows n g other w = known_before n g s.views id other (with_putter v w) w r.each apart there in
-    let p : KnowsPuts n g other w = o.puts puts in
-    let g' : Story = record g { putter = id } in
-    let on_ : GoesOn g g' = record { pushed = begins_itself g.pushed; released = λ hs a. a; taken = omega arith } in
-    let mine = k.tail in
-    let bound = t.known in
-    let within = begins_length v.taken v.read t.begins in
-    let pushed_is : length w.pushed ≡ length g.pushed = ap length p.pushed in
-    let known : Knows n g' id (with_putter v w) = record {
-      noted = k.noted;
-      noted_heads = k.noted_heads;
-      head = k.head;
-      tail = omega arith;
-      puts = λ is. record {
-        at = refl;
-        capacity = p.capacity;
-        written = p.written;
-        pushed = p.pushed;
-        heads = p.heads;
-        passing = t.passing;
-      };
-      takes = λ is. record {
-        at = t.at;
-        capacity = t.capacity;
-        taken = t.taken;
-        released = t.released;
-        begins = begins_itself v.taken;
-        read = begins_through v.taken v.read g.pushed t.begins t.read;
-        known = omega arith;
-        out = t.out;
-        passing = t.passing;
-      };
-    } in
-    let on : (seat : ℕ) (u : View) → seat ≢ id → seat ≢ other → Knows n g seat u → Knows n g' seat u = λ seat u a b old.
-    knows_on n g g' seat u on_
-    (λ q. absurd (b (q.at ∙ sym p.at)))
-    (λ q. record {
-      at = q.at;
-      capacity = q.capacity;
-      taken = q.taken;
-      released = q.released;
-      begins = q.begins;
-      read = q.read;
-      known = q.known;
-      out = q.out;
-      passing = q.passing;
-    }) old in
-    viewed n s r g' (set (set s.views id (with_putter v w)) other blank_view) refl refl refl refl refl refl (λ _. t.at)
-    (each_join n g g' s.views id other (with_putter v w) r.each known on)
 
 -- a new ring
 pub begins : (n : ℕ) (xs : Slot) → Ring n (opening (replicate (n / 4 + 4) 0) (xs ∷ []) (both_ends n))
@@ -829,272 +556,3 @@ begins n xs =
       home = λ _. (xs, refl);
       each = each_end n g [] (both_ends n) (λ seat v e. absurd (some-ne-none v (sym e))) known;
     }
-
--- the slot is taken, once
-pub takes_slot : (n slots id : ℕ) (me : M)
-    → me.0.takes ≡ true
-    → me.0.holds ≡ false
-    → Allows (Ring n) slots id me 0 (λ x. x) (TakesSlot (step slots 0 0 0 none) me)
-takes_slot n slots id me takes holds s r _ here _ =
-    let g : Story = r.story in
-    let k : Knows n g id me.0 = r.each id me.0 here in
-    let t : KnowsTakes n g id me.0 = k.takes takes in
-    let there = r.home (sym t.out ∙ holds) in
-    let g' : Story = record g { out = true } in
-    let w : View = record me.0 { holds = true } in
-    let known : Knows n g' id w = record {
-      noted = k.noted;
-      noted_heads = k.noted_heads;
-      head = k.head;
-      tail = k.tail;
-      puts = λ is. (let p = k.puts is in
-          record {
-            at = p.at;
-            capacity = p.capacity;
-            written = p.written;
-            pushed = p.pushed;
-            heads = p.heads;
-            passing = p.passing;
-          });
-      takes = λ _. record {
-        at = t.at;
-        capacity = t.capacity;
-        taken = t.taken;
-        released = t.released;
-        begins = t.begins;
-        read = t.read;
-        known = t.known;
-        out = refl;
-        passing = t.passing;
-      };
-    } in
-    let on : (seat : ℕ) (v : View) → seat ≢ id → Knows n g seat v → Knows n g' seat v = λ seat v apart old.
-    knows_on n g g' seat v (stays_on g g' refl refl refl)
-    (λ q. record {
-      at = q.at;
-      capacity = q.capacity;
-      written = q.written;
-      pushed = q.pushed;
-      heads = q.heads;
-      passing = q.passing;
-    })
-    (λ u. absurd (apart (u.at ∙ sym t.at))) old in
-    let ring : Ring n record { words = s.words; homes = set s.homes 0 none; views = set s.views id w } = record {
-      story = g';
-      wide = r.wide;
-      head = r.head;
-      tail = r.tail;
-      taken = r.taken;
-      pushed = r.pushed;
-      fits = r.fits;
-      stands = r.stands;
-      one = r.one;
-      released = r.released;
-      last = r.last;
-      home = λ is. absurd (false≢true (sym is));
-      each = each_set n g g' s.views id w r.each known on;
-    } in (
-      w,
-      Act.takes 0 there.0,
-      there.1,
-      subst (λ (ws : List ℕ). Ring n record { words = ws; homes = set s.homes 0 none; views = set s.views id w })
-          (sym (set-get_or s.words 0 0)) ring,
-      (refl, (there.0, refl)),
-    )
-
--- all that the putter's seat knew knows the new one
-pub leaves : (n id : ℕ) (v : View)
-    → v.puts ≡ true
-    → v.takes ≡ false
-    → v.passing ≡ false
-    → Splits (Ring n) id v blank_view v
-leaves n id v puts alone still s r here =
-    let g : Story = r.story in
-    let k : Knows n g id v = r.each id v here in
-    let p : KnowsPuts n g id v = k.puts puts in
-    let views : List View = set s.views id blank_view in
-    let g' : Story = record g { putter = length views } in
-    let right : Knows n g' (length views) v = record {
-      noted = k.noted;
-      noted_heads = k.noted_heads;
-      head = k.head;
-      tail = k.tail;
-      puts = λ is. record {
-        at = refl;
-        capacity = p.capacity;
-        written = p.written;
-        pushed = p.pushed;
-        heads = p.heads;
-        passing = p.passing;
-      };
-      takes = λ is. absurd (false≢true (sym alone ∙ is));
-    } in
-    let on : (seat : ℕ) (u : View) → seat ≢ id → Knows n g seat u → Knows n g' seat u = λ seat u apart old.
-    knows_on n g g' seat u (stays_on g g' refl refl refl)
-    (λ q. absurd (apart (q.at ∙ sym p.at)))
-    (λ q. record {
-      at = q.at;
-      capacity = q.capacity;
-      taken = q.taken;
-      released = q.released;
-      begins = q.begins;
-      read = q.read;
-      known = q.known;
-      out = q.out;
-      passing = q.passing;
-    }) old in
-    viewed n s r g' (views ++ v ∷ []) refl refl refl refl refl refl
-    (λ is. absurd (false≢true (sym still ∙ (p.passing ∙ is))))
-    (each_end n g' views v (each_set n g g' s.views id blank_view r.each (knows_nothing n g' id) on) right)
-
--- the numbers in the slot are put and pushed past the words
-pub puts_past : (n slots id : ℕ) (me : M) (x : ℕ)
-    → me.0.puts ≡ true
-    → me.0.takes ≡ true
-    → length me.0.taken ≡ length me.0.pushed
-    → length (held me.1) ≤ me.0.takes_within
-    → length me.0.written ≤ length me.0.pushed
-    → x ≡ length (me.0.pushed ++ held me.1)
-    → Allows (Ring n) slots id me 1 (λ _. x) (λ _. PutsPast (step slots 1 x 0 none) me x)
-puts_past n slots id me x puts takes level room whole x_is s r _ here _ =
-    let g : Story = r.story in
-    let k : Knows n g id me.0 = r.each id me.0 here in
-    let p : KnowsPuts n g id me.0 = k.puts puts in
-    let t : KnowsTakes n g id me.0 = k.takes takes in
-    let xs : List ℕ = held me.1 in
-    let ys : List ℕ = me.0.pushed ++ xs in
-    let g' : Story = record g { written = ys; pushed = ys; passing = true } in
-    let w : View = with_put_past me.0 xs in
-    let pushed_is : length me.0.pushed ≡ length g.pushed = ap length p.pushed in
-    let taken_is : length me.0.taken ≡ length g.taken = ap length t.taken in
-    let long : length ys ≡ length me.0.pushed + length xs = length-append me.0.pushed xs in
-    let met : me.0.taken ≡ me.0.pushed =
-    t.taken ∙ (begins_whole g.taken g.pushed r.taken (omega arith) ∙ sym p.pushed) in
-    let more : IsPrefix g.pushed ys = subst (λ (z : List ℕ). IsPrefix z ys) p.pushed (begins_more me.0.pushed xs) in
-    let cap = t.capacity in
-    let wide = r.wide in
-    let known : Knows n g' id w = record {
-      noted = begins_through me.0.noted g.pushed ys k.noted more;
-      noted_heads = k.noted_heads;
-      head = k.head;
-      tail = (let tail = k.tail in omega arith);
-      puts = λ _.
-          record { at = p.at; capacity = p.capacity; written = refl; pushed = refl; heads = p.heads; passing = refl };
-      takes = λ _. record {
-        at = t.at;
-        capacity = t.capacity;
-        taken = t.taken;
-        released = t.released;
-        begins = t.begins;
-        read = begins_through me.0.read g.pushed ys t.read more;
-        known = t.known;
-        out = t.out;
-        passing = refl;
-      };
-    } in
-    let on : (seat : ℕ) (v : View) → seat ≢ id → Knows n g seat v → Knows n g' seat v = λ seat v apart old.
-    knows_on n g g' seat v
-    record { pushed = more; released = λ hs a. a; taken = omega arith }
-    (λ q. absurd (apart (q.at ∙ sym p.at)))
-    (λ u. absurd (apart (u.at ∙ sym t.at))) old in (
-      w,
-      keeps,
-      tt,
-      record {
-        story = g';
-        wide = length-set s.words 1 x ∙ r.wide;
-        head = get_or-set_other s.words 1 0 x 0 (λ e. omega arith) ∙ r.head;
-        tail = get_or-set_same s.words 1 x 0 (omega arith) ∙ x_is;
-        taken = begins_through g.taken g.pushed ys r.taken more;
-        pushed = begins_itself ys;
-        fits = omega arith;
-        stands = λ is. absurd (false≢true (sym is));
-        one = λ _. sym p.at ∙ t.at;
-        released = r.released;
-        last = r.last;
-        home = r.home;
-        each = each_set n g g' s.views id w r.each known on;
-      },
-      (refl, refl, met, (let tail = k.tail in omega arith), p.capacity ∙ sym t.capacity),
-    )
-
--- all that was pushed is taken past the words
-pub takes_past : (n slots id : ℕ) (me : M) (x : ℕ)
-    → me.0.puts ≡ true
-    → me.0.takes ≡ true
-    → length me.0.written ≤ length me.0.pushed
-    → x ≡ length me.0.pushed
-    → Allows (Ring n) slots id me 0 (λ _. x) (λ _. TakesPast (step slots 0 x 0 none) me x)
-takes_past n slots id me x puts takes whole x_is s r _ here _ =
-    let g : Story = r.story in
-    let k : Knows n g id me.0 = r.each id me.0 here in
-    let p : KnowsPuts n g id me.0 = k.puts puts in
-    let t : KnowsTakes n g id me.0 = k.takes takes in
-    let ys : List ℕ = me.0.pushed in
-    let size : ℕ = length ys in
-    let g' : Story = record g { taken = ys; released = g.released ++ size ∷ []; passing = false } in
-    let w : View = with_taken_past me.0 in
-    let pushed_is : length ys ≡ length g.pushed = ap length p.pushed in
-    let written_is : length me.0.written ≡ length g.written = ap length p.written in
-    let low = begins_length g.taken g.pushed r.taken in
-    let wide = r.wide in
-    let all : IsPrefix ys g.pushed =
-    subst (λ (z : List ℕ). IsPrefix z g.pushed) (sym p.pushed) (begins_itself g.pushed) in
-    let there : Contains (g.released ++ size ∷ []) size =
-    Contains-append_right g.released (size ∷ []) size (0, omega arith, refl) in
-    let known : Knows n g' id w = record {
-      noted = k.noted;
-      noted_heads = released_more g.released (size ∷ []) me.0.noted_heads k.noted_heads;
-      head = omega arith;
-      tail = omega arith;
-      puts = λ _. record {
-        at = p.at;
-        capacity = p.capacity;
-        written = p.written;
-        pushed = p.pushed;
-        heads = released_push (g.released ++ size ∷ []) me.0.heads size
-            (released_more g.released (size ∷ []) me.0.heads p.heads) (inr there);
-        passing = refl;
-      };
-      takes = λ _. record {
-        at = t.at;
-        capacity = t.capacity;
-        taken = refl;
-        released = ap (λ (z : List ℕ). z ++ size ∷ []) t.released;
-        begins = begins_itself ys;
-        read = all;
-        known = omega arith;
-        out = t.out;
-        passing = refl;
-      };
-    } in
-    let on_ : GoesOn g g' = record {
-      pushed = begins_itself g.pushed;
-      released = λ hs a. released_more g.released (size ∷ []) hs a;
-      taken = omega arith;
-    } in
-    let on : (seat : ℕ) (v : View) → seat ≢ id → Knows n g seat v → Knows n g' seat v = λ seat v apart old.
-    knows_on n g g' seat v on_
-    (λ q. absurd (apart (q.at ∙ sym p.at)))
-    (λ u. absurd (apart (u.at ∙ sym t.at))) old in (
-      w,
-      keeps,
-      tt,
-      record {
-        story = g';
-        wide = length-set s.words 0 x ∙ r.wide;
-        head = get_or-set_same s.words 0 x 0 (omega arith) ∙ x_is;
-        tail = get_or-set_other s.words 0 1 x 0 (λ e. omega arith) ∙ r.tail;
-        taken = all;
-        pushed = r.pushed;
-        fits = omega arith;
-        stands = λ _ i low high. absurd (omega arith);
-        one = λ is. absurd (false≢true is);
-        released = All-push (λ (h : ℕ). h ≤ size) g.released size
-            (below_more g.released (length g.taken) size (omega arith) r.released) (omega arith);
-        last = inr there;
-        home = r.home;
-        each = each_set n g g' s.views id w r.each known on;
-      },
-      (refl, refl),
-    )

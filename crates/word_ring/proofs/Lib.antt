@@ -1,8 +1,10 @@
 pub mod Beginnings
+pub mod Joining
 pub mod Keeps
 pub mod LastWord
 pub mod Packing
 pub mod Passed
+pub mod PastSlot
 pub mod Putting
 pub mod Reading
 pub mod Released

@@ -37,8 +37,7 @@ pub(crate) fn word_of(xs: [u16; 4]) -> u64
     u64::from(a) + u64::from(b) * LANE + u64::from(c) * TWO_LANES + u64::from(d) * THREE_LANES
 }
 
-/// The word with the numbers in the last `k` lanes of one word, and then those in the first lanes of the
-/// next.
+/// The word with the numbers in the last `k` lanes of one word, and then those in the first lanes of the next.
 #[inline(always)]
 pub(crate) fn joined(word: u64, next: u64, k: u64) -> u64
     requires { (0 < k) × (k < 4) }

@@ -95,9 +95,8 @@ impl Putter {
         self.sent - self.load_head()
     }
 
-    /// Puts a number. `Full` says how many were put and how many of these were taken, at the head
-    /// that this call loaded, and comes where as many as the capacity are left. The taker finds the
-    /// number after the next push.
+    /// Puts a number. `Full` says how many were put and how many of these were taken, at the head that this call
+    /// loaded, and comes where as many as the capacity are left. The taker finds the number after the next push.
     pub fn put(&mut self, x: u16) -> Result<(), Full>
         requires { length self.old.sent < MOST_SENT }
         ensures ok { OnOk result
@@ -173,8 +172,7 @@ impl Putter {
         }
     }
 
-    /// Is told what the taker had taken, and loads the head once. That head and each later one is at
-    /// least that.
+    /// Is told what the taker had taken, and loads the head once. That head and each later one is at least that.
     pub fn meet(&mut self, note: HeadNote)
         requires { note.ring ≡ self.old.ring }
         ensures same { self.new ≡ with_loaded self.old self.new.floor }

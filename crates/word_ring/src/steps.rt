@@ -106,8 +106,7 @@ pub(crate) fn place_to_load(
     None
 }
 
-/// Stores the word in whose last lanes are the last numbers put, so many. Where it has none there is
-/// nothing to store.
+/// Stores the word in whose last lanes are the last numbers put, so many. Where it has none there is nothing to store.
 #[inline(always)]
 pub(crate) fn store_lanes(steps: &Steps, seat: &mut RingSeat, at: usize, word: u64, count: u64)
     requires seat { (seat.old.table_id ≡ steps.now.table_id) × (seat.old.me.0.puts ≡ true) }

@@ -16,8 +16,7 @@ pub(crate) const HEAD: usize = 0;
 /// The word that has the tail.
 pub(crate) const TAIL: usize = 1;
 
-/// What a seat at the table knows. No value of it is made. A clause reads an array as a list of any
-/// length.
+/// What a seat at the table knows. No value of it is made. A clause reads an array as a list of any length.
 pub struct View {
     /// This is the putter's seat.
     pub puts: bool,

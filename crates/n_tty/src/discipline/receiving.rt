@@ -17,7 +17,7 @@ ghost use Rattle.n_tty.specs.Roles.{mapped_byte, role_of};
 ghost use Rattle.n_tty.specs.Taking.{MayStore, MayTake};
 
 use super::NTty;
-use crate::erasing::echo_erased;
+use crate::erasing::{Erasing, echo_erased};
 use crate::posting::{echo_bytes, echo_printed};
 use crate::roles::{Role, is_character, is_plain, mapped_byte, role_of, signal_of};
 use crate::storing::{add_all, end_with, end_with_eof, start_of};
@@ -272,17 +272,12 @@ impl NTty {
         ensures after { on_port self.new wire.new tally.new
             ≡ after_word_erase modes.now (on_port self.old wire.old tally.old) }
     {
-        let from = self.edit.bytes().len() - self.edit.word_len();
-        echo_erased(
-            &self.edit,
-            EraseKind::Word,
-            from,
-            self.start,
-            &mut self.out,
-            modes,
-            wire,
-            tally,
-        );
+        let erasing = Erasing {
+            kind: EraseKind::Word,
+            from: self.edit.bytes().len() - self.edit.word_len(),
+            start: self.start,
+        };
+        echo_erased(&self.edit, erasing, &mut self.out, modes, wire, tally);
         let _count = self.edit.erase_word();
     }
 
@@ -298,16 +293,12 @@ impl NTty {
         }
         let whole = echo(EchoEvent::Killed, modes);
         if whole.is_empty() {
-            echo_erased(
-                &self.edit,
-                EraseKind::Kill,
-                0,
-                self.start,
-                &mut self.out,
-                modes,
-                wire,
-                tally,
-            );
+            let erasing = Erasing {
+                kind: EraseKind::Kill,
+                from: 0,
+                start: self.start,
+            };
+            echo_erased(&self.edit, erasing, &mut self.out, modes, wire, tally);
         } else {
             echo_bytes(&mut self.out, whole.as_slice(), modes, wire, tally);
         }

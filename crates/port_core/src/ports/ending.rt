@@ -3,7 +3,7 @@
 ghost use Rattle.std.specs.Prelude.{◌≡◌, ◌≤◌, true, false, IfErr, OnOk, OnErr, length};
 
 use super::Port;
-use crate::entries::{reserve_entry, room_for_chars, starve};
+use crate::entries::{add_entry, reserve_entry, room_for_chars, starve};
 use crate::flips::{drop_rest, look_at, tell_each_other};
 use flip_buffer::FlipIn;
 use ldisc_switch::{Kind, fresh};
@@ -48,19 +48,12 @@ impl Port {
         ensures putter { OnErr result (putter.new ≡ putter.old) }
     {
         self.gate()?;
-        reserve_entry(&mut self.journal, &mut self.starved, 0, 0)?;
+        let sent = putter.sent();
+        let entry = self.entry_of_phase(Who::Line, Event::LineEnd(sent));
+        add_entry(&mut self.journal, &mut self.starved, &entry)?;
         tell_each_other(&mut self.flip, putter);
         self.flip.look(); // so what was put fits beside what was taken
-        let sent = putter.sent();
-        let entry = Entry {
-            who: Who::Line,
-            step: self.terminal.phase(),
-            part: 0,
-            generation: self.terminal.generation(),
-            event: Event::LineEnd(sent),
-        };
         self.terminal.end_line(sent);
-        self.journal.add(&entry);
         Ok(())
     }
 
@@ -74,17 +67,10 @@ impl Port {
         ensures putter { OnErr result (putter.new ≡ putter.old) }
     {
         self.gate()?;
-        reserve_entry(&mut self.journal, &mut self.starved, 0, 0)?;
+        let entry = self.entry_of_phase(Who::Session, Event::PhaseEnd);
+        add_entry(&mut self.journal, &mut self.starved, &entry)?;
         tell_each_other(&mut self.flip, putter);
-        let entry = Entry {
-            who: Who::Session,
-            step: self.terminal.phase(),
-            part: 0,
-            generation: self.terminal.generation(),
-            event: Event::PhaseEnd,
-        };
         self.terminal.begin_phase();
-        self.journal.add(&entry);
         Ok(())
     }
 

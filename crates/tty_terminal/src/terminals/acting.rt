@@ -1,6 +1,6 @@
 //! What each call does.
 
-ghost use Rattle.std.specs.Prelude.{◌≡◌, [], ◌∷◌, Option, Some, None, true, false, ◌==◌, ◌+◌, ◌-◌};
+ghost use Rattle.std.specs.Prelude.{◌≡◌, [], ◌∷◌, IfErr, OnOk, Option, Some, None, true, false, ◌==◌, ◌+◌, ◌-◌};
 ghost use Rattle.std.specs.Prelude.{◌*◌, ◌≤◌, ◌<◌, ◌^◌, min, length, drop, option_map, box_value, if◌then◌else◌};
 ghost use Rattle.tty_base.specs.Sizes.{COLUMNS_OF_PIECE, COUNT_END, MOST_HANDLES, MOST_HELD, MOST_POSTED, NUMBER_END};
 ghost use Rattle.tty_base.specs.Sizes.{PIECE};
@@ -11,7 +11,8 @@ ghost use Rattle.ldisc_switch.specs.Disciplines.{fresh_of, kind_of_number, colum
 ghost use Rattle.ldisc_switch.specs.Happenings.{mode_change, after_one};
 ghost use Rattle.tty_terminal.specs.Meeting.{fresh_in, spelled_unless_long};
 ghost use Rattle.tty_terminal.specs.Transfers.{has_parts};
-ghost use Rattle.tty_terminal.specs.Outcomes.{may_read as reads_by, may_write as writes_by};
+ghost use Rattle.tty_terminal.specs.Terminals.{Terminal as PlainTerminal};
+ghost use Rattle.tty_terminal.specs.Outcomes.{Outcome, refuses, on_live, may_read as reads_by, may_write as writes_by};
 
 use super::Terminal;
 use crate::callers::CallerState;
@@ -29,6 +30,19 @@ fn refuse(errno: Errno) -> Met
     ensures { result ≡ Met.Gives (Answer.Refused errno) }
 {
     Met::Gives(Answer::Refused(errno))
+}
+
+/// Whether a handle is there, and live; or why a call that any live handle serves is refused.
+#[inline(always)]
+fn live(handle: Option<HandleState>) -> Result<(), Errno>
+    ensures ok { OnOk result ((t : PlainTerminal) (live : Outcome) → on_live t handle live ≡ live) }
+    ensures err { IfErr result (λ errno. (t : PlainTerminal) (live : Outcome) → on_live t handle live ≡ refuses errno t) }
+{
+    match handle {
+        None => Err(Errno::EBADF),
+        Some(handle) if !handle.live => Err(Errno::EIO),
+        Some(_) => Ok(()),
+    }
 }
 
 pub(super) fn may_read(access: Access) -> bool
@@ -61,7 +75,7 @@ fn modes_after(modes: &Modes, words: &[Word]) -> Modes
 
 impl Terminal {
     ghost use Rattle.tty_terminal.specs.Terminals.{handle_at, handle_for};
-    ghost use Rattle.tty_terminal.specs.Outcomes.{does, tells, on_live, on_access, may_read, may_write};
+    ghost use Rattle.tty_terminal.specs.Outcomes.{does, tells, on_access, may_read, may_write};
     ghost use Rattle.tty_terminal.specs.Opening.{opening_outcome, closing_outcome};
     ghost use Rattle.tty_terminal.specs.Transfers.{reading_outcome, writing_outcome, write_outcome};
     ghost use Rattle.tty_terminal.specs.Modes.{modes_outcome, drain_outcome, with_modes, without_input};
@@ -268,11 +282,8 @@ impl Terminal {
         ensures wire { self.old.wire_room ≤ self.new.wire_room + MOST_HELD }
         ensures column { column_in self.new.terminal.disc ≡ column_in self.old.terminal.disc }
     {
-        let Some(handle) = handle else {
-            return refuse(Errno::EBADF);
-        };
-        if !handle.live {
-            return refuse(Errno::EIO);
+        if let Err(errno) = live(handle) {
+            return refuse(errno);
         }
         match when {
             When::Now => {}
@@ -335,11 +346,8 @@ impl Terminal {
         ensures wire { self.old.wire_room ≤ self.new.wire_room + MOST_HELD }
         ensures column { column_in self.new.terminal.disc ≤ column_in self.old.terminal.disc + COLUMNS_OF_PIECE }
     {
-        let Some(handle) = handle else {
-            return refuse(Errno::EBADF);
-        };
-        if !handle.live {
-            return refuse(Errno::EIO);
+        if let Err(errno) = live(handle) {
+            return refuse(errno);
         }
         if Kind::of(number).is_none() {
             return refuse(Errno::EINVAL);
@@ -363,11 +371,8 @@ impl Terminal {
         ensures wire { self.new.wire_room ≡ self.old.wire_room }
         ensures column { column_in self.new.terminal.disc ≤ column_in self.old.terminal.disc }
     {
-        let Some(handle) = handle else {
-            return refuse(Errno::EBADF);
-        };
-        if !handle.live {
-            return refuse(Errno::EIO);
+        if let Err(errno) = live(handle) {
+            return refuse(errno);
         }
         if let Some(fresh) = room.take_fresh() {
             self.hang_up(fresh);
@@ -383,11 +388,8 @@ impl Terminal {
         ensures wire { self.new.wire_room ≡ self.old.wire_room }
         ensures column { column_in self.new.terminal.disc ≡ column_in self.old.terminal.disc }
     {
-        let Some(handle) = handle else {
-            return refuse(Errno::EBADF);
-        };
-        if !handle.live {
-            return refuse(Errno::EIO);
+        if let Err(errno) = live(handle) {
+            return refuse(errno);
         }
         match queue {
             Queue::Input => self.drop_input(),
@@ -409,11 +411,8 @@ impl Terminal {
         ensures wire { self.old.wire_room ≤ self.new.wire_room + MOST_HELD }
         ensures disc { self.new.terminal.disc ≡ self.old.terminal.disc }
     {
-        let Some(handle) = handle else {
-            return refuse(Errno::EBADF);
-        };
-        if !handle.live {
-            return refuse(Errno::EIO);
+        if let Err(errno) = live(handle) {
+            return refuse(errno);
         }
         let _held = self.wire.held(); // known: its bound
         match act {
@@ -434,11 +433,8 @@ impl Terminal {
         ensures wire { self.new.wire_room ≡ self.old.wire_room }
         ensures disc { self.new.terminal.disc ≡ self.old.terminal.disc }
     {
-        let Some(handle) = handle else {
-            return refuse(Errno::EBADF);
-        };
-        if !handle.live {
-            return refuse(Errno::EIO);
+        if let Err(errno) = live(handle) {
+            return refuse(errno);
         }
         self.exclusive = on;
         Met::Gives(Answer::Done)
@@ -449,11 +445,8 @@ impl Terminal {
         ensures left { self.now.terminal
             ≡ left_before_rule (on_live self.now.terminal handle (drain_outcome self.now.terminal)) self.now.terminal }
     {
-        let Some(handle) = handle else {
-            return refuse(Errno::EBADF);
-        };
-        if !handle.live {
-            return refuse(Errno::EIO);
+        if let Err(errno) = live(handle) {
+            return refuse(errno);
         }
         if self.wire.held() > 0 {
             return Met::Waits;

@@ -10,7 +10,7 @@ use Rattle.job_one.specs.Events.{AreOn}
 use Rattle.job_ports.specs.declared.ports.PortPlayed.{PortPlayed}
 use Rattle.job_ports.specs.Between.{IsStoppedBy}
 use Rattle.job_ports.proofs.Casting.{scene_of_session}
-use Rattle.job_ports.proofs.Endings.{ends_jobs, ready_after, ready_ring, ready_sent}
+use Rattle.job_ports.proofs.Ended.{ends_jobs, ready_after, ready_ring, ready_sent}
 use Rattle.job_ports.proofs.ports.play_port.Goals as goal
 
 pub end-requires-clause-after : goal.end-requires-clause-after

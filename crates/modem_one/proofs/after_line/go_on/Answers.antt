@@ -1,6 +1,6 @@
 use Rattle.std.proofs.lemmas.Result.{err_from_is_err_and}
 use Rattle.calls_left.specs.Remaining.{any_call_of}
-use Rattle.modem_one.proofs.Between.{place_at, next_of, between_call, less_call}
+use Rattle.modem_one.proofs.LeftCalls.{place_at, next_of, between_call, less_call}
 use Rattle.modem_one.proofs.after_line.go_on.Goals as goal
 
 pub take_call-requires : goal.take_call-requires

@@ -6,7 +6,7 @@ use Rattle.modem_one.specs.AfterLine.{IsTurnOf}
 use Rattle.modem_one.specs.declared.turns.Next.{Next}
 use Rattle.modem_one.specs.declared.turns.Next.TheVariants as next
 use Rattle.modem_one.proofs.Taking.{in_turn_at, can_end, ring_is, stops_with}
-use Rattle.modem_one.proofs.Between.{begins_between, asked_at, items_at, going_at}
+use Rattle.modem_one.proofs.LeftCalls.{begins_between, asked_at, items_at, going_at}
 use Rattle.modem_one.proofs.Ending.{ends_turns}
 use Rattle.modem_one.proofs.after_line.play_after_line.Goals as goal
 

@@ -3,7 +3,7 @@ use Rattle.std.proofs.lemmas.Result.{IfOk-weaker}
 use Rattle.modem_one.specs.AfterLine.{IsTurnOf, IsBetween, TakesNoCall}
 use Rattle.modem_one.specs.Left.{turns_left}
 use Rattle.modem_one.specs.declared.turns.Next.{Next}
-use Rattle.modem_one.proofs.Between.{between_turn, less_turn}
+use Rattle.modem_one.proofs.LeftCalls.{between_turn, less_turn}
 use Rattle.modem_one.proofs.after_line.play_turn.Goals as goal
 
 pub take_flush-requires : goal.take_flush-requires

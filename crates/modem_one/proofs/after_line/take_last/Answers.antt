@@ -1,6 +1,6 @@
 use Rattle.std.proofs.Common.{[]}
 use Rattle.std.proofs.lemmas.Result.{err_from_is_err_and}
-use Rattle.modem_one.proofs.Between.{place_at}
+use Rattle.modem_one.proofs.LeftCalls.{place_at}
 use Rattle.modem_one.proofs.Ending.{in_last_at, between_last, less_last}
 use Rattle.modem_one.proofs.Taking.{stops_with}
 use Rattle.modem_one.proofs.after_line.take_last.Goals as goal

@@ -8,25 +8,25 @@ use Rattle.modem_ports.proofs.Phased.{frame_of, line_begins, turns_begin, phase_
 use Rattle.modem_ports.proofs.Stopped.{turns_stop, line_stops}
 use Rattle.modem_ports.proofs.phases.play_parts.Goals as goal
 
-pub play_up_to_end-played-requires-clause-begins : goal.play_up_to_end-played-requires-clause-begins
-play_up_to_end-played-requires-clause-begins g c = line_begins g.setting c.args.roles.now c.args.at.now c.args.run
+pub play_line-played-requires-clause-begins : goal.play_line-played-requires-clause-begins
+play_line-played-requires-clause-begins g c = line_begins g.setting c.args.roles.now c.args.at.now c.args.run
     c.args.calls.now c.args.items.now c.args.steps.now.items c.args.ticks c.requires
 
-pub play_up_to_end-played-requires-clause-good : goal.play_up_to_end-played-requires-clause-good
-play_up_to_end-played-requires-clause-good g c = c.requires.good
+pub play_line-played-requires-clause-good : goal.play_line-played-requires-clause-good
+play_line-played-requires-clause-good g c = c.requires.good
 
 pub play_after_line-ended-requires : goal.play_after_line-ended-requires
 play_after_line-ended-requires g c =
     let begins = turns_begin g.setting c.args.roles.now c.args.at.now c.args.run c.args.calls.now c.args.items.now
-    c.args.steps.now.items c.args.ticks c.play_up_to_end-played.new.port c.play_up_to_end-played.new.putter
-    c.play_up_to_end-played.new.line c.in_ok-run.run' c.requires c.in_ok-run.ensures.ok
+    c.args.steps.now.items c.args.ticks c.play_line-played.new.port c.play_line-played.new.putter
+    c.play_line-played.new.line c.in_ok-run.run' c.requires c.in_ok-run.ensures.ok
     c.known.ensures.port in
     (begins.0, begins.1)
 
 pub returns-in_err-run-clause-err : goal.returns-in_err-run-clause-err
 returns-in_err-run-clause-err g c =
     let at = c.args.at.now in
-    let new = c.play_up_to_end-played.new in
+    let new = c.play_line-played.new in
     let left : ModemStation = record {
       names = at.names;
       station = record { port = new.port; putter = new.putter; line = new.line; steps = at.station.steps };
@@ -36,12 +36,12 @@ returns-in_err-run-clause-err g c =
     rw (p.1, p.2)
     (line_stops c.in_err-run.field-0.0 g.setting c.args.roles.now at c.args.run c.args.calls.now c.args.items.now
     c.args.steps.now.items c.args.ticks left new.port new.putter new.line
-    c.requires c.in_err-run.ensures.err c.in_err-run.ensures.open c.known.ensures.port refl refl refl refl)
+    c.requires c.in_err-run.ensures.err c.known.ensures.port refl refl refl refl)
 
 pub returns-clause-ok : goal.returns-clause-ok
 returns-clause-ok g c =
     let at = c.args.at.now in
-    let line = c.play_up_to_end-played.new in
+    let line = c.play_line-played.new in
     let new = c.play_after_line-ended.new in
     let k = at.station.port.terminal.phase in
     IfOk-weaker c.play_after_line-ended.result
@@ -69,7 +69,7 @@ returns-clause-ok g c =
 pub returns-clause-err : goal.returns-clause-err
 returns-clause-err g c =
     let at = c.args.at.now in
-    let line = c.play_up_to_end-played.new in
+    let line = c.play_line-played.new in
     let new = c.play_after_line-ended.new in
     let left : ModemStation = record {
       names = at.names;

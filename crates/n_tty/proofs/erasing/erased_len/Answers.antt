@@ -6,8 +6,8 @@ use Rattle.n_tty.proofs.erasing.erased_len.Goals as goal
 pub loop-i-preserved : goal.loop-i-preserved
 loop-i-preserved c =
     let modes = c.args.modes.now in
-    let kind = c.args.kind in
-    let start = c.args.start in
+    let kind = c.args.erasing.kind in
+    let start = c.args.erasing.start in
     let line = c.args.edit.now in
     let i = c.loop-i.i in
     let echo : c.echo.result.items ≡ echo_at modes kind start line i =

@@ -11,8 +11,8 @@ use Rattle.n_tty.proofs.erasing.post_erased.Goals as goal
 pub post-requires-clause-spare : goal.post-requires-clause-spare
 post-requires-clause-spare c =
     let modes = c.args.modes.now in
-    let kind = c.args.kind in
-    let start = c.args.start in
+    let kind = c.args.erasing.kind in
+    let start = c.args.erasing.start in
     let line = c.args.edit.now in
     let i = c.loop-i.i - 1 in
     let echo : c.echo.result.items ≡ echo_at modes kind start line i =
@@ -32,8 +32,9 @@ post-requires-clause-spare c =
 pub post-requires-clause-room : goal.post-requires-clause-room
 post-requires-clause-room c =
     let modes = c.args.modes.now in
-    let kind = c.args.kind in
-    let start = c.args.start in
+    let kind = c.args.erasing.kind in
+    let start = c.args.erasing.start in
+    let from = c.args.erasing.from in
     let line = c.args.edit.now in
     let i = c.loop-i.i - 1 in
     let wire = c.loop-i.wire in
@@ -44,20 +45,21 @@ post-requires-clause-room c =
     let posts : all_posted_bytes modes c.loop-i.out c.as_slice.result.now ≡ this =
     ap (all_posted_bytes modes c.loop-i.out) (c.as_slice.ensures.value ∙ echo)
     ∙ all_posted_bytes-rubs modes c.loop-i.out _ (OnlyRubs-echo_at modes kind start line i c.requires.kind) in
-    let rest = echo_of_gone modes kind start (take c.args.from line) (drop c.args.from (take i line)) in
+    let rest = echo_of_gone modes kind start (take from line) (drop from (take i line)) in
     let next : c.loop-i.i ≡ i + 1 = omega (arith, c.loop-i-test.true) in
-    let more : echo_of_gone modes kind start (take c.args.from line)
-    (drop c.args.from (take c.loop-i.i line)) ≡ this ++ rest =
-    ap (λ j. echo_of_gone modes kind start (take c.args.from line) (drop c.args.from (take j line))) next
-    ∙ echo_of_gone-before modes kind start line c.args.from i (omega (arith, c.loop-i-test.true))
+    let more : echo_of_gone modes kind start (take from line)
+    (drop from (take c.loop-i.i line)) ≡ this ++ rest =
+    ap (λ j. echo_of_gone modes kind start (take from line) (drop from (take j line))) next
+    ∙ echo_of_gone-before modes kind start line from i (omega (arith, c.loop-i-test.true))
     (omega (arith, c.loop-i-test.true, c.loop-i.invariant.within)) in
     ap (has_room wire) posts ∙ has_room-front wire this rest (ap (has_room wire) (sym more) ∙ c.loop-i.invariant.room)
 
 pub loop-i-preserved : goal.loop-i-preserved
 loop-i-preserved c =
     let modes = c.args.modes.now in
-    let kind = c.args.kind in
-    let start = c.args.start in
+    let kind = c.args.erasing.kind in
+    let start = c.args.erasing.start in
+    let from = c.args.erasing.from in
     let line = c.args.edit.now in
     let i = c.loop-i.i - 1 in
     let wire = c.loop-i.wire in
@@ -68,12 +70,12 @@ loop-i-preserved c =
     let posts : all_posted_bytes modes c.loop-i.out c.as_slice.result.now ≡ this =
     ap (all_posted_bytes modes c.loop-i.out) (c.as_slice.ensures.value ∙ echo)
     ∙ all_posted_bytes-rubs modes c.loop-i.out _ (OnlyRubs-echo_at modes kind start line i c.requires.kind) in
-    let rest = echo_of_gone modes kind start (take c.args.from line) (drop c.args.from (take i line)) in
+    let rest = echo_of_gone modes kind start (take from line) (drop from (take i line)) in
     let next : c.loop-i.i ≡ i + 1 = omega (arith, c.loop-i-test.true) in
-    let more : echo_of_gone modes kind start (take c.args.from line)
-    (drop c.args.from (take c.loop-i.i line)) ≡ this ++ rest =
-    ap (λ j. echo_of_gone modes kind start (take c.args.from line) (drop c.args.from (take j line))) next
-    ∙ echo_of_gone-before modes kind start line c.args.from i (omega (arith, c.loop-i-test.true))
+    let more : echo_of_gone modes kind start (take from line)
+    (drop from (take c.loop-i.i line)) ≡ this ++ rest =
+    ap (λ j. echo_of_gone modes kind start (take from line) (drop from (take j line))) next
+    ∙ echo_of_gone-before modes kind start line from i (omega (arith, c.loop-i-test.true))
     (omega (arith, c.loop-i-test.true, c.loop-i.invariant.within)) in
     let fits : has_room wire (this ++ rest) ≡ true = ap (has_room wire) (sym more) ∙ c.loop-i.invariant.room in
     let left : c.post.new.wire ≡ after_send wire this = c.post.ensures.wire ∙ ap (after_send wire) posts in

@@ -1,77 +1,46 @@
-use Rattle.std.proofs.Common.{[], ◌∷◌, arith}
-use Rattle.std.proofs.lemmas.Result.{err_from_is_err_and, IfOk-weaker, IfErr-weaker}
+use Rattle.std.proofs.Common.{[], ◌∷◌}
+use Rattle.std.proofs.lemmas.Result.{err_from_is_err_and}
 use Rattle.tty_base.specs.declared.lines.LineStep.TheVariants.{Idle, Unmask}
-use Rattle.one_thread.specs.LineInside.{PlaysSteps, StopsSteps}
-use Rattle.one_thread.proofs.LineLoop.{stands_on, stops_early, stops_later, plays_more}
+use Rattle.one_thread.specs.LineInside.{line_at}
+use Rattle.one_thread.proofs.GoingAlong.{follows_more}
+use Rattle.one_thread.proofs.LineLoop.{stands_first, stands_on, stops_early, does_more}
 use Rattle.one_thread.proofs.line.close.Goals as goal
 
-pub play_step-requires-clause-room : goal.play_step-requires-clause-room
-play_step-requires-clause-room c = omega (arith, c.requires.stands.room)
+pub play_step-requires-clause-stands : goal.play_step-requires-clause-stands
+play_step-requires-clause-stands g c =
+    stands_first (Unmask ∷ []) (Idle 4 ∷ []) (line_at c.args.port.now c.args.putter.now c.args.line.now) c.args.run
+    c.requires.stands
 
-pub play_step-requires-clause-put : goal.play_step-requires-clause-put
-play_step-requires-clause-put c = c.requires.stands.between.in_line.has_put.room
-
-pub play_step-requires-clause-ring : goal.play_step-requires-clause-ring
-play_step-requires-clause-ring c = c.requires.stands.between.in_line.has_put.ring
-
-pub play_step-requires-clause-run : goal.play_step-requires-clause-run
-play_step-requires-clause-run c = c.requires.stands.between.begins_run
-
-pub returns-in_err-next-clause-err : goal.returns-in_err-next-clause-err
-returns-in_err-next-clause-err c =
+pub returns-in_err-next-clause-does : goal.returns-in_err-next-clause-does
+returns-in_err-next-clause-does g c =
     let p = err_from_is_err_and c.from_residual.result c.from_residual.ensures.1 in
     let w = c.play_step.new in
-    rw (p.1, p.2) (stops_early c.in_err-next.field-0.0 (Unmask ∷ []) (Idle 4 ∷ []) c.args.port.now w.port
-    c.args.putter.now w.putter c.args.line.now w.line c.args.run c.in_err-next.ensures.err)
+    rw (p.1, p.2) (stops_early c.in_err-next.field-0.0 (Unmask ∷ []) (Idle 4 ∷ [])
+    (line_at c.args.port.now c.args.putter.now c.args.line.now) (line_at w.port w.putter w.line) c.args.run
+    c.in_err-next.ensures.does)
 
-pub play_step-requires-2-clause-room : goal.play_step-requires-2-clause-room
-play_step-requires-2-clause-room c =
+pub returns-in_err-next-clause-follows : goal.returns-in_err-next-clause-follows
+returns-in_err-next-clause-follows g c =
+    let p = err_from_is_err_and c.from_residual.result c.from_residual.ensures.1 in
+    rw (p.1, p.2) c.in_err-next.ensures.follows
+
+pub play_step-requires-2-clause-stands : goal.play_step-requires-2-clause-stands
+play_step-requires-2-clause-stands g c =
     let w = c.play_step.new in
-    let s = stands_on (Unmask ∷ []) (Idle 4 ∷ []) c.args.port.now w.port c.args.putter.now w.putter c.args.line.now
-    w.line c.args.run c.in_ok-next.next c.in_ok-next.ensures.ok c.requires.stands in
-    omega (arith, s.room)
+    stands_on (Unmask ∷ []) (Idle 4 ∷ []) (line_at c.args.port.now c.args.putter.now c.args.line.now)
+    (line_at w.port w.putter w.line) c.args.run c.in_ok-next.next c.in_ok-next.ensures.does c.requires.stands
 
-pub play_step-requires-2-clause-put : goal.play_step-requires-2-clause-put
-play_step-requires-2-clause-put c =
-    let w = c.play_step.new in
-    let s = stands_on (Unmask ∷ []) (Idle 4 ∷ []) c.args.port.now w.port c.args.putter.now w.putter c.args.line.now
-    w.line c.args.run c.in_ok-next.next c.in_ok-next.ensures.ok c.requires.stands in
-    s.between.in_line.has_put.room
-
-pub play_step-requires-2-clause-ring : goal.play_step-requires-2-clause-ring
-play_step-requires-2-clause-ring c =
-    let w = c.play_step.new in
-    let s = stands_on (Unmask ∷ []) (Idle 4 ∷ []) c.args.port.now w.port c.args.putter.now w.putter c.args.line.now
-    w.line c.args.run c.in_ok-next.next c.in_ok-next.ensures.ok c.requires.stands in
-    s.between.in_line.has_put.ring
-
-pub play_step-requires-2-clause-run : goal.play_step-requires-2-clause-run
-play_step-requires-2-clause-run c =
-    let w = c.play_step.new in
-    let s = stands_on (Unmask ∷ []) (Idle 4 ∷ []) c.args.port.now w.port c.args.putter.now w.putter c.args.line.now
-    w.line c.args.run c.in_ok-next.next c.in_ok-next.ensures.ok c.requires.stands in
-    s.between.begins_run
-
-pub returns-clause-ok : goal.returns-clause-ok
-returns-clause-ok c =
+pub returns-clause-does : goal.returns-clause-does
+returns-clause-does g c =
     let w = c.play_step.new in
     let x = c.play_step-2.new in
-    IfOk-weaker c.play_step-2.result
-    (λ next. PlaysSteps (Idle 4 ∷ []) w.port x.port w.putter x.putter w.line x.line c.in_ok-next.next next)
-    (λ next. PlaysSteps (Unmask ∷ Idle 4 ∷ []) c.args.port.now x.port c.args.putter.now
-    x.putter c.args.line.now x.line c.args.run next)
-    (plays_more (Unmask ∷ []) (Idle 4 ∷ []) c.args.port.now w.port c.args.putter.now w.putter c.args.line.now w.line
-    c.args.run c.in_ok-next.next c.in_ok-next.ensures.ok x.port x.putter x.line)
-    c.play_step-2.ensures.ok
+    does_more (Unmask ∷ []) (Idle 4 ∷ []) (line_at c.args.port.now c.args.putter.now c.args.line.now)
+    (line_at w.port w.putter w.line) c.args.run c.in_ok-next.next c.in_ok-next.ensures.does
+    (line_at x.port x.putter x.line) c.play_step-2.result c.play_step-2.ensures.does
 
-pub returns-clause-err : goal.returns-clause-err
-returns-clause-err c =
+pub returns-clause-follows : goal.returns-clause-follows
+returns-clause-follows g c =
     let w = c.play_step.new in
     let x = c.play_step-2.new in
-    IfErr-weaker c.play_step-2.result
-    (λ d. StopsSteps d (Idle 4 ∷ []) w.port x.port w.putter x.putter w.line x.line c.in_ok-next.next)
-    (λ d. StopsSteps d (Unmask ∷ Idle 4 ∷ []) c.args.port.now x.port
-    c.args.putter.now x.putter c.args.line.now x.line c.args.run)
-    (λ d. stops_later (Unmask ∷ []) (Idle 4 ∷ []) c.args.port.now w.port c.args.putter.now w.putter c.args.line.now
-    w.line c.args.run c.in_ok-next.next c.in_ok-next.ensures.ok d x.port x.putter x.line)
-    c.play_step-2.ensures.err
+    follows_more g.F.Follower.follows c.args.port.now w.port c.args.follower.now w.follower c.in_ok-next.ensures.follows
+    x.port x.follower c.play_step-2.result c.play_step-2.ensures.follows

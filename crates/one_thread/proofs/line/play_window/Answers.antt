@@ -1,29 +1,40 @@
-use Rattle.std.proofs.Common.{◌≡◌, List, ◌++◌, drop, sym, ◌∙◌, ap, subst}
-use Rattle.std.proofs.lemmas.List.{take-append-drop, take-map}
-use Rattle.std.proofs.lemmas.Result.{IfErr-weaker}
-use Rattle.tty_base.specs.declared.characters.Flag.TheVariants.{Normal}
-use Rattle.tty_base.specs.declared.lines.LineStep.{LineStep}
-use Rattle.line_steps.specs.Steps.{rx_step}
+use Rattle.std.proofs.lemmas.Result.{err_from_is_err_and}
 use Rattle.uart_line.specs.GoodSteps.{good_steps}
-use Rattle.one_thread.specs.LineInside.{StopsSteps}
-use Rattle.one_thread.proofs.LineLoop.{stops_early}
+use Rattle.one_thread.specs.LineInside.{line_at}
+use Rattle.one_thread.proofs.GoingAlong.{goes_once, flush_stops, follower_stops}
+use Rattle.one_thread.proofs.LineLoop.{memory_stops}
 use Rattle.one_thread.proofs.line.play_window.Goals as goal
 
-pub returns-in-Some-clause-err : goal.returns-in-Some-clause-err
-returns-in-Some-clause-err c =
-    let bytes = c.args.bytes.now in
-    let first = good_steps c.in-Some.window.now in
-    let rest = drop 8 (good_steps bytes) in
-    let all : first ++ rest ≡ good_steps bytes =
-    ap (λ (l : List LineStep). l ++ rest)
-    (ap good_steps (sym c.in-Some.ensures.first) ∙ sym (take-map (rx_step Normal) 8 bytes))
-    ∙ take-append-drop 8 (good_steps bytes) in
-    let w = c.give_window.new in
-    IfErr-weaker c.give_window.result
-    (λ d. StopsSteps d first c.args.port.now w.port c.args.putter.now w.putter c.args.line.now w.line c.args.run)
-    (λ d.
-    StopsSteps d (good_steps bytes) c.args.port.now w.port c.args.putter.now w.putter c.args.line.now w.line c.args.run)
-    (λ d h. subst (λ (l : List LineStep).
-    StopsSteps d l c.args.port.now w.port c.args.putter.now w.putter c.args.line.now w.line c.args.run) all
-    (stops_early d first rest c.args.port.now w.port c.args.putter.now w.putter c.args.line.now w.line c.args.run h))
-    c.give_window.ensures.err
+pub returns-in_err-passed-clause-does : goal.returns-in_err-passed-clause-does
+returns-in_err-passed-clause-does g c =
+    let p = err_from_is_err_and c.from_residual.result c.from_residual.ensures.1 in
+    rw (p.1, p.2) c.in_err-passed.ensures.does
+
+pub returns-in_err-passed-clause-follows : goal.returns-in_err-passed-clause-follows
+returns-in_err-passed-clause-follows g c =
+    let p = err_from_is_err_and c.from_residual.result c.from_residual.ensures.1 in
+    rw (p.1, p.2) (flush_stops c.in_err-passed.field-0.0 g.F.Follower.follows c.args.port.now
+    c.flush_window-passed.new.port c.args.follower.now c.known.ensures.port c.known-2.ensures.port
+    c.flush_window-passed.ensures.flushes)
+
+pub returns-in_err-follow-clause-does : goal.returns-in_err-follow-clause-does
+returns-in_err-follow-clause-does g c =
+    let p = err_from_is_err_and c.from_residual-in_err-follow.result c.from_residual-in_err-follow.ensures.1 in
+    let w = c.flush_window-passed.new in
+    rw (p.1, p.2) (memory_stops c.in_err-follow.field-0.0 (good_steps c.args.bytes.now)
+    (line_at c.args.port.now c.args.putter.now c.args.line.now) (line_at w.port w.putter w.line) c.args.run
+    c.in_err-follow.ensures.err)
+
+pub returns-in_err-follow-clause-follows : goal.returns-in_err-follow-clause-follows
+returns-in_err-follow-clause-follows g c =
+    let p = err_from_is_err_and c.from_residual-in_err-follow.result c.from_residual-in_err-follow.ensures.1 in
+    rw (p.1, p.2) (follower_stops c.in_err-follow.field-0.0 g.F.Follower.follows c.args.port.now
+    c.flush_window-passed.new.port c.args.follower.now c.follow.new.self c.in_err-follow.ensures.err)
+
+pub returns-clause-does : goal.returns-clause-does
+returns-clause-does g c = c.in_ok-passed.ensures.does
+
+pub returns-clause-follows : goal.returns-clause-follows
+returns-clause-follows g c =
+    goes_once g.F.Follower.follows c.args.port.now c.flush_window-passed.new.port c.args.follower.now c.follow.new.self
+    c.known.ensures.port c.known-2.ensures.port c.flush_window-passed.ensures.flushes c.in_ok-follow.ensures.ok

@@ -13,8 +13,9 @@ close-requires-clause-all c =
     let items : c.in-Ok.all.items ≡ all = first_of (cc, search rules) in
     let many : 6 ≡ (opening_value c.args.shared.cell).callers + 4 = ap (λ (n : ℕ). n + 4) (sym c.requires.callers) in
     let first = c.requires.first in
+    let flusher = c.requires.flusher in
     let others = c.requires.others in
     let numbered : AreNumbered 0 all =
-    (first.0.number, (first.1.number, (c.requires.flusher.number, (others.0.number, (others.1.number, (others.2.number, tt))))))
+    (first.0.number, (first.1.number, (flusher.number, (others.0.number, (others.1.number, (others.2.number, tt))))))
     in
     subst (λ (n : ℕ). HasAll n c.in-Ok.all.items) many (subst (HasAll 6) (sym items) (has_numbered all numbered))

@@ -1,4 +1,5 @@
 use Rattle.std.proofs.Common.{◌≡◌, ℕ, ◌+◌, ◌-◌, ◌/◌, length}
+use Rattle.session_print.specs.Sizes.{STEPS}
 use Rattle.session_print.specs.Printing.{place_on, stretches_of}
 use Rattle.session_print.proofs.places.note_on.Given as goal
 
@@ -7,4 +8,4 @@ invariant-loop-alloc l =
     (at : ℕ) → place_on (stretches_of l.row.items) at ≡ place_on (stretches_of l.initial.row.items) at
 
 abbrev pub decreases-loop-alloc : goal.decreases-loop-alloc
-decreases-loop-alloc l = l.step / 64 + 1 - length l.row.items
+decreases-loop-alloc l = l.step / STEPS + 1 - length l.row.items

@@ -3,7 +3,7 @@ use Rattle.std.specs.Prelude.{option_map}
 use Rattle.tty_calls.specs.Sessions.{session_of}
 use Rattle.tty_one.specs.Endings.{texts_of}
 use Rattle.tty_one.specs.Reported.{returned}
-use Rattle.tty_main.specs.Ended.{IsEnded}
+use Rattle.tty_main.specs.ExitStatus.{IsEnded}
 use Rattle.tty_main.proofs.ending.run_words.Goals as goal
 
 pub returns : goal.returns

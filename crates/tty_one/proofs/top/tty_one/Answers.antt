@@ -5,13 +5,16 @@ use Rattle.tty_one.specs.declared.works.Ending.TheVariants.{BadWords}
 use Rattle.tty_one.specs.Reported.{returned}
 use Rattle.tty_one.specs.Outcome.{breaks_words, WasGivenFront}
 use Rattle.tty_one.specs.Works.{brought}
-use Rattle.tty_one.proofs.Outcomes.{nothing_told, nothing_by, no_entries, no_log, no_modem_log, no_session}
-use Rattle.tty_one.proofs.Outcomes.{none_derived, completes_consoles, completes_modem_lines, not_modem_lines}
-use Rattle.tty_one.proofs.Outcomes.{not_one_modem, completes_processes, not_consoles, not_one_vt, not_processes}
-use Rattle.tty_one.proofs.Outcomes.{one_of_consoles}
-use Rattle.tty_one.proofs.Outcomes.{not_one_jobs, nothing_read, broken, done_by, refused_by, illegal_by}
-use Rattle.tty_one.proofs.Outcomes.{told_by, took_by, long_by, completes, judged, made, none_judged}
-use Rattle.tty_one.proofs.Outcomes.{unasked, unjudged, unmade, one_reads, reads_nothing, work_with}
+use Rattle.tty_one.proofs.AskedWords.{not_one_modem, not_one_vt, one_of_consoles, not_one_jobs, one_reads}
+use Rattle.tty_one.proofs.AskedWords.{reads_nothing}
+use Rattle.tty_one.proofs.ToldWork.{broken, done_by, refused_by, illegal_by, told_by}
+use Rattle.tty_one.proofs.ReadWork.{nothing_read, took_by, long_by}
+use Rattle.tty_one.proofs.ReturnedWork.{nothing_told, nothing_by, no_entries, no_log, no_modem_log, no_session}
+use Rattle.tty_one.proofs.ReturnedWork.{none_derived, none_judged, work_with}
+use Rattle.tty_one.proofs.PlayedTexts.{completes, judged, made, unasked, unjudged, unmade}
+use Rattle.tty_one.proofs.ConsolesTexts.{completes_consoles, not_consoles}
+use Rattle.tty_one.proofs.ProcessesTexts.{completes_processes, not_processes}
+use Rattle.tty_one.proofs.ModemLinesTexts.{completes_modem_lines, not_modem_lines}
 use Rattle.tty_one.proofs.top.tty_one.Goals as goal
 
 pub returns-in_default-clause-broken : goal.returns-in_default-clause-broken

@@ -2,10 +2,15 @@ use Rattle.std.proofs.Common.{inl, inr, ap, ◌∙◌}
 use Rattle.tty_one.specs.Endings.{AreKnown, AreRunOne, AskConsoles, AskToPlay, AskToRead, AskVtOne, texts_of}
 use Rattle.tty_one.specs.Reported.{returned}
 use Rattle.tty_one.specs.Works.{brought}
-use Rattle.tty_one.proofs.Outcomes.{broken, completes, completes_consoles, done_by, illegal_by, judged, long_by, made}
-use Rattle.tty_one.proofs.Outcomes.{no_log, no_modem_log, no_session, none_derived, not_modem_lines}
-use Rattle.tty_one.proofs.Outcomes.{no_entries, none_judged, not_processes, nothing_by, one_if_not_on_threads}
-use Rattle.tty_one.proofs.Outcomes.{reads_nothing, refused_by, threads_read, told_by, took_by, work_with}
+use Rattle.tty_one.proofs.AskedWords.{one_if_not_on_threads, reads_nothing, threads_read}
+use Rattle.tty_one.proofs.ToldWork.{broken, done_by, illegal_by, refused_by, told_by}
+use Rattle.tty_one.proofs.ReadWork.{long_by, took_by}
+use Rattle.tty_one.proofs.ReturnedWork.{no_log, no_modem_log, no_session, none_derived, no_entries, none_judged}
+use Rattle.tty_one.proofs.ReturnedWork.{nothing_by, work_with}
+use Rattle.tty_one.proofs.PlayedTexts.{completes, judged, made}
+use Rattle.tty_one.proofs.ConsolesTexts.{completes_consoles}
+use Rattle.tty_one.proofs.ProcessesTexts.{not_processes}
+use Rattle.tty_one.proofs.ModemLinesTexts.{not_modem_lines}
 use Rattle.tty_run.proofs.WordLemmas.{broken_one, consoles_headline, consoles_one, for_fewer, headline, not_run, not_vt}
 use Rattle.tty_run.proofs.WordLemmas.{play_one, threads_are_not_jobs, threads_are_not_modem, threads_end}
 use Rattle.tty_run.proofs.WordLemmas.{threads_reading, unknown_to_one}

@@ -2,7 +2,9 @@ use Rattle.std.proofs.Common.{rules, ◌≡◌, ℕ, ◌+◌, ◌/◌, replicate
 use mathlib.Core.List.{IsPrefix}
 use Rattle.word_ring.specs.PutterParts.{sent_of}
 use Rattle.word_ring.specs.Rule.{Slot}
-use Rattle.word_ring.proofs.Keeps.{begins, parts, takes_slot}
+use Rattle.word_ring.proofs.Joining.{parts}
+use Rattle.word_ring.proofs.Keeps.{begins}
+use Rattle.word_ring.proofs.PastSlot.{takes_slot}
 use Rattle.word_ring.proofs.new.ring.Goals as goal
 
 pub new-requires : goal.new-requires

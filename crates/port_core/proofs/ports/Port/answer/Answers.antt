@@ -1,41 +1,30 @@
-use Rattle.std.proofs.Common.{◌≡◌, ℕ, List, Option, [], ◌∷◌, ◌++◌, Bool, false, Some, ◌+◌}
-use Rattle.std.proofs.Common.{◌<◌, ◌≤◌, length, refl, sym, ◌∙◌, ap, subst, arith, append-nil}
-use Rattle.tty_base.specs.Sizes.{COLUMNS_OF_PIECE}
-use Rattle.tty_calls.specs.declared.journals.Who.TheVariants.{Caller}
+use Rattle.std.proofs.Common.{◌≡◌, ℕ, List, Option, [], false, ◌+◌}
+use Rattle.std.proofs.Common.{◌<◌, length, refl, sym, ◌∙◌, ap, subst, arith, append-nil}
 use Rattle.tty_calls.specs.Plain.{PlainEntry, answered, parted, handle_of, call_of}
-use Rattle.tty_calls.specs.Plain.{answer_of, entry_of, bytes_by, bytes_in}
-use Rattle.ldisc_switch.specs.Disciplines.{column_in}
-use Rattle.tty_terminal.specs.Terminals.{Terminal, caller_at, has_begun}
+use Rattle.tty_calls.specs.Plain.{answer_of, bytes_by, bytes_in}
+use Rattle.tty_terminal.specs.Terminals.{Terminal, caller_at}
 use Rattle.tty_terminal.specs.Calls.{outcome}
 use Rattle.tty_terminal.specs.Meeting.{drops_of}
-use Rattle.tty_terminal.specs.Steps.{after_answer, after_part, with_dropped, left_by}
+use Rattle.tty_terminal.specs.Steps.{after_answer, after_part, with_dropped}
 use Rattle.port_core.specs.declared.waiting.WaitingCall.{WaitingCall}
-use Rattle.port_core.specs.Ports.{PortValue, kept_with, caller_entry}
-use Rattle.port_core.specs.Attempts.{IsReady, AnswersCall, TakesPartOf}
+use Rattle.port_core.specs.Ports.{PortValue, caller_entry}
+use Rattle.port_core.specs.Attempts.{AnswersCall, TakesPartOf}
 use Rattle.port_core.specs.Inside.{KeepsCalls, value_of}
-use Rattle.port_core.proofs.GoingOn.{made, entry_added, known_caller, port_bounded}
-use Rattle.port_core.proofs.Calls.{begun_is, answers_met, parts_met, none_dropped, with_none_dropped}
-use Rattle.port_core.proofs.Answering.{IsTried, after_call, answers_call, takes_part_of}
-use Rattle.tty_calls.specs.Plain.{PlainCall}
+use Rattle.port_core.proofs.GoingOn.{known_caller, port_bounded}
+use Rattle.port_core.proofs.Calls.{answers_met, parts_met, none_dropped, with_none_dropped}
+use Rattle.port_core.proofs.Answering.{IsTried, tries, MetBy, met_before, leaves_of, IsNoted, noted, made_by_call}
+use Rattle.port_core.proofs.Answering.{after_call, answers_call, takes_part_of}
+use Rattle.tty_calls.specs.Plain.{PlainEvent}
 use Rattle.tty_calls.specs.Limits.{byte_count}
 use Rattle.tty_terminal.specs.declared.rooms.Met.TheVariants as met
-use Rattle.tty_terminal.specs.Outcomes.{Outcome}
 use Rattle.tty_terminal.specs.Meeting.{Meets}
-use Rattle.tty_terminal.proofs.Effects.{Leaves, outcome_keeps}
+use Rattle.tty_terminal.proofs.Effects.{Leaves}
 use Rattle.tty_terminal.proofs.WaitLaws.{run_part_count, part_more}
 use Rattle.port_core.specs.Ports.{call_in}
 use Rattle.port_core.proofs.Fitting.{answer_fits}
 use Rattle.port_core.proofs.Handing.{when_false}
 use Rattle.port_core.proofs.ports.Port.answer.Goals as goal
 use Rattle.port_core.proofs.ports.Port.answer.Goals.{After-note, After-note-in-Takes}
-
--- what a call leaves of the terminal
-leaves_of : (t u w : Terminal) (d : ℕ) (call : PlainCall)
-    → u ≡ t
-    → w ≡ left_by (outcome u (caller_at u d) call) u
-    → Leaves t w
-leaves_of t u w d call same left = subst (λ (x : Terminal). Leaves x w) same
-    (subst (λ (x : Terminal). Leaves u x) (sym left) (outcome_keeps u (caller_at u d) (Some call)).left)
 
 pub caller-state-requires : goal.caller-state-requires
 caller-state-requires c = known_caller (value_of c.self.inside) c.args.self.now c.args.caller
@@ -147,54 +136,34 @@ answers c =
     let step = c.args.step in
     let call = call_of c.args.call.now in
     let slots : List (Option WaitingCall) = c.self.inside.waiting.items in
-    let ready : IsReady v d step call =
-    subst (λ (w : PortValue). IsReady w d step call) (sym c.self.view_is) c.requires.ready in
-    let few : length v.journal < v.limit =
-    subst (λ (w : PortValue). length w.journal < w.limit) (sym c.self.view_is) c.requires.open.0 in
-    let begun : c.is_some-begun.result ≡ has_begun (caller_at v.terminal d) =
-    begun_is v.terminal d c.caller-state.result c.is_some-begun.result c.caller-state.ensures c.is_some-begun.ensures in
-    let tried : IsTried v slots d step call = record { keeps = c.self.invariant; few = few; ready = ready } in
+    let tried : IsTried v slots d step call =
+    tries v c.args.self.now slots d step call c.self.view_is c.self.invariant c.requires.open c.requires.ready in
     let o = outcome v.terminal (caller_at v.terminal d) call in
-    let same_o : outcome c.prepare.new.terminal.terminal (caller_at c.prepare.new.terminal.terminal d) call ≡ o =
-    ap (λ (t : Terminal). outcome t (caller_at t d) call) c.prepare.ensures.terminal in
-    let left : c.meet.new.self.terminal ≡ left_by o v.terminal =
-    c.meet.ensures.left
-    ∙ ap (λ (t : Terminal). left_by (outcome t (caller_at t d) call) t) c.prepare.ensures.terminal in
-    let column : column_in c.meet.new.self.terminal.disc ≤ column_in v.terminal.disc + COLUMNS_OF_PIECE =
-    subst (λ (t : Terminal). column_in c.meet.new.self.terminal.disc ≤ column_in t.disc + COLUMNS_OF_PIECE)
-    c.prepare.ensures.terminal c.meet.ensures.column in
+    let met_by : MetBy v.terminal d call (met.Gives c.in-Gives.answer) c.meet.new.self.terminal =
+    met_before v.terminal c.prepare.new.terminal.terminal d call (met.Gives c.in-Gives.answer) c.meet.new.self.terminal
+    c.prepare.ensures.terminal
+    (record { meets = c.in-Gives.ensures.met; left_is = c.meet.ensures.left; column = c.meet.ensures.column }) in
     let keeps : drops_of o ≡ false =
     subst (λ (w : PortValue). drops_of (outcome w.terminal (caller_at w.terminal d) call) ≡ false) (sym c.self.view_is)
     c.requires.keeps in
-    let e : PlainEntry = caller_entry v d (answered (answer_of c.in-Gives.answer) []) in
-    let entry : entry_of c.entry_of_call-entry.result ≡ e =
-    c.entry_of_call-entry.ensures
-    ∙ (λ i. record {
-      who = Caller d;
-      step = ready.next i;
-      part = (c.caller-state.ensures i).parts;
-      generation = c.generation-generation.ensures i;
-      event = answered (c.lent.ensures i) [];
-    }) in
-    let js : c.add.new.self.items ≡ v.journal ++ e ∷ [] =
-    entry_added v.journal _ _ _ e c.in_ok-reserve_entry.ensures.items c.add.ensures entry in
-    let kept_plain : c.note.new.self.items ≡ kept_with (has_begun (caller_at v.terminal d)) v.kept d step call =
-    c.note.ensures ∙ ap (λ (b : Bool). kept_with b v.kept d step call) begun in
+    let event : PlainEvent = answered (answer_of c.in-Gives.answer) [] in
+    let notes : IsNoted v d step call event c.add.new.self.items c.note.new.self.items =
+    noted v d step _ call _ _ event _ _ _ _ _ tried.ready.next c.caller-state.ensures c.is_some-begun.ensures
+    c.generation-generation.ensures (ap (λ a. answered a []) c.lent.ensures) c.entry_of_call-entry.ensures
+    c.in_ok-reserve_entry.ensures.items c.add.ensures c.note.ensures in
     let goes : c.advance.new.self.terminal ≡ after_answer (with_dropped c.meet.new.self.terminal 0) d =
     ap (λ r. r.terminal) c.advance.ensures
     ∙ ap (λ (w : Terminal). after_answer w d) (sym (with_none_dropped c.meet.new.self.terminal)) in
     let same : answered_now c
-    ≡ after_call v d step call (after_answer (with_dropped c.meet.new.self.terminal 0) d) v.flip e =
-    made v _ (after_answer (with_dropped c.meet.new.self.terminal 0) d) _ (v.journal ++ e ∷ []) _
-    (kept_with (has_begun (caller_at v.terminal d)) v.kept d step call) _ v.flip v.flip goes js kept_plain
-    (c.in_ok-room.ensures.ok ∙ c.in_ok-reserve_entry.ensures.ok) refl in
+    ≡ after_call v d step call (after_answer (with_dropped c.meet.new.self.terminal 0) d) v.flip
+    (caller_entry v d event) =
+    made_by_call v d step call event _ _ _ _ _ v.flip notes goes
+    (c.in_ok-room.ensures.ok ∙ c.in_ok-reserve_entry.ensures.ok) in
     answers_call v (answered_now c) slots d step call (answer_of c.in-Gives.answer)
-    [] c.meet.new.self.terminal v.flip tried
-    (answers_met _ o c.in-Gives.answer
-    (subst (λ (x : Outcome). Meets x (met.Gives c.in-Gives.answer)) same_o c.in-Gives.ensures.met))
+    [] c.meet.new.self.terminal v.flip tried (answers_met _ o c.in-Gives.answer met_by.meets)
     (none_dropped v.terminal o keeps)
     (when_false (drops_of o) _ _ keeps (refl, refl)) (sym (append-nil v.flip.taken)) (omega arith)
-    refl c.self.invariant.port.sent left column same
+    refl c.self.invariant.port.sent met_by.left_is met_by.column same
 
 pub invariant_of-self-in-Gives : goal.invariant_of-self-in-Gives
 invariant_of-self-in-Gives c = (answers (goal.at.invariant_of-self-in-Gives c).After-note).0
@@ -225,51 +194,28 @@ takes c =
     let step = c.args.step in
     let call = call_of c.args.call.now in
     let slots : List (Option WaitingCall) = c.self.inside.waiting.items in
-    let ready : IsReady v d step call =
-    subst (λ (w : PortValue). IsReady w d step call) (sym c.self.view_is) c.requires.ready in
-    let few : length v.journal < v.limit =
-    subst (λ (w : PortValue). length w.journal < w.limit) (sym c.self.view_is) c.requires.open.0 in
-    let begun : c.is_some-begun.result ≡ has_begun (caller_at v.terminal d) =
-    begun_is v.terminal d c.caller-state.result c.is_some-begun.result c.caller-state.ensures c.is_some-begun.ensures in
-    let tried : IsTried v slots d step call = record { keeps = c.self.invariant; few = few; ready = ready } in
+    let tried : IsTried v slots d step call =
+    tries v c.args.self.now slots d step call c.self.view_is c.self.invariant c.requires.open c.requires.ready in
     let o = outcome v.terminal (caller_at v.terminal d) call in
-    let same_o : outcome c.prepare.new.terminal.terminal (caller_at c.prepare.new.terminal.terminal d) call ≡ o =
-    ap (λ (t : Terminal). outcome t (caller_at t d) call) c.prepare.ensures.terminal in
-    let left : c.meet.new.self.terminal ≡ left_by o v.terminal =
-    c.meet.ensures.left
-    ∙ ap (λ (t : Terminal). left_by (outcome t (caller_at t d) call) t) c.prepare.ensures.terminal in
-    let column : column_in c.meet.new.self.terminal.disc ≤ column_in v.terminal.disc + COLUMNS_OF_PIECE =
-    subst (λ (t : Terminal). column_in c.meet.new.self.terminal.disc ≤ column_in t.disc + COLUMNS_OF_PIECE)
-    c.prepare.ensures.terminal c.meet.ensures.column in
-    let keeps : drops_of o ≡ false =
-    subst (λ (w : PortValue). drops_of (outcome w.terminal (caller_at w.terminal d) call) ≡ false) (sym c.self.view_is)
-    c.requires.keeps in
-    let e : PlainEntry = caller_entry v d (parted c.in-Takes.count) in
-    let entry : entry_of c.entry_of_call-entry-in-Takes.result ≡ e =
-    c.entry_of_call-entry-in-Takes.ensures
-    ∙ (λ i. record {
-      who = Caller d;
-      step = ready.next i;
-      part = (c.caller-state.ensures i).parts;
-      generation = c.generation-generation.ensures i;
-      event = parted c.in-Takes.count;
-    }) in
-    let js : c.add-in-Takes.new.self.items ≡ v.journal ++ e ∷ [] =
-    entry_added v.journal _ _ _ e c.in_ok-reserve_entry.ensures.items c.add-in-Takes.ensures entry in
-    let kept_plain : c.note-in-Takes.new.self.items
-    ≡ kept_with (has_begun (caller_at v.terminal d)) v.kept d step call =
-    c.note-in-Takes.ensures ∙ ap (λ (b : Bool). kept_with b v.kept d step call) begun in
+    let met_by : MetBy v.terminal d call (met.Takes c.in-Takes.count) c.meet.new.self.terminal =
+    met_before v.terminal c.prepare.new.terminal.terminal d call (met.Takes c.in-Takes.count) c.meet.new.self.terminal
+    c.prepare.ensures.terminal
+    (record { meets = c.in-Takes.ensures.met; left_is = c.meet.ensures.left; column = c.meet.ensures.column }) in
+    let event : PlainEvent = parted c.in-Takes.count in
+    let notes : IsNoted v d step call event c.add-in-Takes.new.self.items c.note-in-Takes.new.self.items =
+    noted v d step _ call _ _ event event _ _ _ _ tried.ready.next c.caller-state.ensures c.is_some-begun.ensures
+    c.generation-generation.ensures refl c.entry_of_call-entry-in-Takes.ensures
+    c.in_ok-reserve_entry.ensures.items c.add-in-Takes.ensures c.note-in-Takes.ensures in
     let goes : c.note_part.new.self.terminal ≡ after_part c.meet.new.self.terminal d (handle_of call) c.in-Takes.count =
     ap (λ r. r.terminal) c.note_part.ensures
     ∙ ap (λ (h : ℕ). after_part c.meet.new.self.terminal d h c.in-Takes.count) c.handle.ensures in
     let same : taken_now c
-    ≡ after_call v d step call (after_part c.meet.new.self.terminal d (handle_of call) c.in-Takes.count) v.flip e =
-    made v _ (after_part c.meet.new.self.terminal d (handle_of call) c.in-Takes.count) _ (v.journal ++ e ∷ []) _
-    (kept_with (has_begun (caller_at v.terminal d)) v.kept d step call) _ v.flip v.flip goes js kept_plain
-    (c.in_ok-room.ensures.ok ∙ c.in_ok-reserve_entry.ensures.ok) refl in
+    ≡ after_call v d step call (after_part c.meet.new.self.terminal d (handle_of call) c.in-Takes.count) v.flip
+    (caller_entry v d event) =
+    made_by_call v d step call event _ _ _ _ _ v.flip notes goes
+    (c.in_ok-room.ensures.ok ∙ c.in_ok-reserve_entry.ensures.ok) in
     takes_part_of v (taken_now c) slots d step call c.in-Takes.count c.meet.new.self.terminal tried
-    (parts_met o c.in-Takes.count
-    (subst (λ (x : Outcome). Meets x (met.Takes c.in-Takes.count)) same_o c.in-Takes.ensures.met)) left column same
+    (parts_met o c.in-Takes.count met_by.meets) met_by.left_is met_by.column same
 
 pub invariant_of-self-in-Takes : goal.invariant_of-self-in-Takes
 invariant_of-self-in-Takes c = (takes (goal.at.invariant_of-self-in-Takes c).After-note-in-Takes).0

@@ -1,43 +1,33 @@
 use Rattle.std.specs.Prelude.{MatchBool}
-use Rattle.std.proofs.Common.{◌≡◌, ℕ, List, Option, [], ◌∷◌, ◌++◌, Bool, true, false, Some, ◌+◌, ◌-◌}
-use Rattle.std.proofs.Common.{min, if◌then◌else◌, ◌<◌, ◌≤◌, length, refl, sym, ◌∙◌, ap, subst, arith}
+use Rattle.std.proofs.Common.{◌≡◌, ℕ, List, Option, Bool, true, false, ◌+◌, ◌-◌}
+use Rattle.std.proofs.Common.{min, if◌then◌else◌, ◌<◌, ◌≤◌, length, sym, ◌∙◌, ap, subst, arith}
 use Rattle.tty_base.specs.declared.characters.Flagged.{Flagged}
-use Rattle.tty_calls.specs.declared.journals.Who.TheVariants.{Caller}
-use Rattle.tty_calls.specs.Plain.{PlainEntry, answered, call_of, answer_of, entry_of, bytes_by, bytes_in, chars_in}
-use Rattle.ldisc_switch.specs.Disciplines.{column_in}
-use Rattle.tty_terminal.specs.Terminals.{Terminal, caller_at, has_begun}
+use Rattle.tty_calls.specs.Plain.{PlainEntry, answered, call_of, answer_of, bytes_by, bytes_in, chars_in}
+use Rattle.tty_terminal.specs.Terminals.{Terminal, caller_at}
 use Rattle.tty_terminal.specs.Calls.{outcome}
 use Rattle.tty_terminal.specs.Meeting.{drops_of}
-use Rattle.tty_terminal.specs.Steps.{after_answer, with_dropped, left_by}
+use Rattle.tty_terminal.specs.Steps.{after_answer, with_dropped}
 use Rattle.port_core.specs.declared.waiting.WaitingCall.{WaitingCall}
 use Rattle.port_core.specs.Flips.{DropsShown}
-use Rattle.port_core.specs.Ports.{PortValue, kept_with, caller_entry}
-use Rattle.port_core.specs.Attempts.{IsReady, AnswersCall}
+use Rattle.port_core.specs.Ports.{PortValue, caller_entry}
+use Rattle.port_core.specs.Attempts.{AnswersCall}
 use Rattle.port_core.specs.Inside.{KeepsCalls, value_of}
-use Rattle.port_core.proofs.GoingOn.{made, entry_added, known_caller, port_bounded}
+use Rattle.port_core.proofs.GoingOn.{known_caller, port_bounded}
 use Rattle.port_core.proofs.GoingOn.{port_taken, port_capacity, port_within, port_few}
-use Rattle.port_core.proofs.Calls.{begun_is, answers_met, some_dropped}
-use Rattle.port_core.proofs.Answering.{IsTried, after_call, answers_call}
-use Rattle.tty_calls.specs.Plain.{PlainCall}
+use Rattle.port_core.proofs.Calls.{answers_met, some_dropped}
+use Rattle.port_core.proofs.Answering.{IsTried, tries, MetBy, met_before, leaves_of, IsNoted, noted, made_by_call}
+use Rattle.port_core.proofs.Answering.{after_call, answers_call}
+use Rattle.tty_calls.specs.Plain.{PlainEvent}
 use Rattle.tty_terminal.specs.declared.rooms.Met.TheVariants as met
-use Rattle.tty_terminal.specs.Outcomes.{Outcome}
 use Rattle.tty_terminal.specs.Meeting.{Meets}
-use Rattle.tty_terminal.proofs.Effects.{Leaves, outcome_keeps}
+use Rattle.tty_terminal.proofs.Effects.{Leaves}
 use Rattle.port_core.proofs.Fitting.{answer_fits}
 use Rattle.std.proofs.lemmas.Bool.{false≢true}
-use Rattle.tty_base.specs.Sizes.{COLUMNS_OF_PIECE, MOST_FLIP}
+use Rattle.tty_base.specs.Sizes.{MOST_FLIP}
 use Rattle.word_ring.specs.Ends.{TakerState}
 use Rattle.port_core.specs.Ports.{IsPort}
 use Rattle.port_core.proofs.ports.Port.answer_dropping.Goals as goal
 use Rattle.port_core.proofs.ports.Port.answer_dropping.Goals.{After-note}
-
--- what a call leaves of the terminal
-leaves_of : (t u w : Terminal) (d : ℕ) (call : PlainCall)
-    → u ≡ t
-    → w ≡ left_by (outcome u (caller_at u d) call) u
-    → Leaves t w
-leaves_of t u w d call same left = subst (λ (x : Terminal). Leaves x w) same
-    (subst (λ (x : Terminal). Leaves u x) (sym left) (outcome_keeps u (caller_at u d) (Some call)).left)
 
 when_true : (b : Bool) (X Y : Type 0) → b ≡ true → X → MatchBool b X Y
 when_true true X Y h x = x
@@ -186,39 +176,21 @@ answers c =
     let step = c.args.step in
     let call = call_of c.args.call.now in
     let slots : List (Option WaitingCall) = c.self.inside.waiting.items in
-    let ready : IsReady v d step call =
-    subst (λ (w : PortValue). IsReady w d step call) (sym c.self.view_is) c.requires.ready in
-    let few : length v.journal < v.limit =
-    subst (λ (w : PortValue). length w.journal < w.limit) (sym c.self.view_is) c.requires.open.0 in
-    let begun : c.is_some-begun.result ≡ has_begun (caller_at v.terminal d) =
-    begun_is v.terminal d c.caller-state.result c.is_some-begun.result c.caller-state.ensures c.is_some-begun.ensures in
-    let tried : IsTried v slots d step call = record { keeps = c.self.invariant; few = few; ready = ready } in
+    let tried : IsTried v slots d step call =
+    tries v c.args.self.now slots d step call c.self.view_is c.self.invariant c.requires.open c.requires.ready in
     let o = outcome v.terminal (caller_at v.terminal d) call in
-    let same_o : outcome c.prepare.new.terminal.terminal (caller_at c.prepare.new.terminal.terminal d) call ≡ o =
-    ap (λ (t : Terminal). outcome t (caller_at t d) call) c.prepare.ensures.terminal in
-    let left : c.meet.new.self.terminal ≡ left_by o v.terminal =
-    c.meet.ensures.left
-    ∙ ap (λ (t : Terminal). left_by (outcome t (caller_at t d) call) t) c.prepare.ensures.terminal in
-    let column : column_in c.meet.new.self.terminal.disc ≤ column_in v.terminal.disc + COLUMNS_OF_PIECE =
-    subst (λ (t : Terminal). column_in c.meet.new.self.terminal.disc ≤ column_in t.disc + COLUMNS_OF_PIECE)
-    c.prepare.ensures.terminal c.meet.ensures.column in
+    let met_by : MetBy v.terminal d call (met.Gives c.in-Gives.answer) c.meet.new.self.terminal =
+    met_before v.terminal c.prepare.new.terminal.terminal d call (met.Gives c.in-Gives.answer) c.meet.new.self.terminal
+    c.prepare.ensures.terminal
+    (record { meets = c.in-Gives.ensures.met; left_is = c.meet.ensures.left; column = c.meet.ensures.column }) in
     let drops : drops_of o ≡ true =
     subst (λ (w : PortValue). drops_of (outcome w.terminal (caller_at w.terminal d) call) ≡ true) (sym c.self.view_is)
     c.requires.drops in
-    let e : PlainEntry = caller_entry v d (answered (answer_of c.in-Gives.answer) c.drop_shown.new.dropped.items) in
-    let entry : entry_of c.entry_of_call-entry.result ≡ e =
-    c.entry_of_call-entry.ensures
-    ∙ (λ i. record {
-      who = Caller d;
-      step = ready.next i;
-      part = (c.caller-state.ensures i).parts;
-      generation = c.generation-generation.ensures i;
-      event = answered (c.lent.ensures i) (c.as_slice.ensures i);
-    }) in
-    let js : c.add.new.self.items ≡ v.journal ++ e ∷ [] =
-    entry_added v.journal _ _ _ e c.in_ok-reserve_entry.ensures.items c.add.ensures entry in
-    let kept_plain : c.note.new.self.items ≡ kept_with (has_begun (caller_at v.terminal d)) v.kept d step call =
-    c.note.ensures ∙ ap (λ (b : Bool). kept_with b v.kept d step call) begun in
+    let event : PlainEvent = answered (answer_of c.in-Gives.answer) c.drop_shown.new.dropped.items in
+    let notes : IsNoted v d step call event c.add.new.self.items c.note.new.self.items =
+    noted v d step _ call _ _ event _ _ _ _ _ tried.ready.next c.caller-state.ensures c.is_some-begun.ensures
+    c.generation-generation.ensures (λ i. answered (c.lent.ensures i) (c.as_slice.ensures i))
+    c.entry_of_call-entry.ensures c.in_ok-reserve_entry.ensures.items c.add.ensures c.note.ensures in
     let goes : c.advance.new.self.terminal
     ≡ after_answer (with_dropped c.meet.new.self.terminal (length c.drop_shown.new.dropped.items)) d =
     ap (λ r. r.terminal) c.advance.ensures
@@ -227,22 +199,19 @@ answers c =
     let same : now_of c
     ≡ after_call v d step call
     (after_answer (with_dropped c.meet.new.self.terminal (length c.drop_shown.new.dropped.items)) d)
-    c.drop_shown.new.flip e =
-    made v _ (after_answer (with_dropped c.meet.new.self.terminal (length c.drop_shown.new.dropped.items)) d) _
-    (v.journal ++ e ∷ []) _ (kept_with (has_begun (caller_at v.terminal d)) v.kept d step call) _ c.drop_shown.new.flip
-    c.drop_shown.new.flip goes js kept_plain
-    (c.in_ok-room.ensures.ok ∙ c.in_ok-dropped.ensures.ok ∙ c.in_ok-reserve_entry.ensures.ok) refl in
+    c.drop_shown.new.flip (caller_entry v d event) =
+    made_by_call v d step call event _ _ _ _ _ c.drop_shown.new.flip notes goes
+    (c.in_ok-room.ensures.ok ∙ c.in_ok-dropped.ensures.ok ∙ c.in_ok-reserve_entry.ensures.ok) in
     let least : v.terminal.sent ≤ shown.tail = omega (arith, c.self.invariant.port.sent, shown.looks.rises) in
     let most : shown.tail ≤ v.terminal.taken + v.terminal.capacity =
     omega (arith, shown.looks.most, port_taken v c.self.invariant.port, port_capacity v c.self.invariant.port) in
     answers_call v (now_of c) slots d step call (answer_of c.in-Gives.answer) c.drop_shown.new.dropped.items
     c.meet.new.self.terminal c.drop_shown.new.flip tried
-    (answers_met _ o c.in-Gives.answer
-    (subst (λ (x : Outcome). Meets x (met.Gives c.in-Gives.answer)) same_o c.in-Gives.ensures.met))
+    (answers_met _ o c.in-Gives.answer met_by.meets)
     (some_dropped v.terminal o shown.tail (length c.drop_shown.new.dropped.items) drops least most shown.all)
     (when_true (drops_of o) _ _ drops shown) shown.takes_out.taken
     (drops_few v c.drop_shown.new.flip c.drop_shown.new.dropped.items c.self.invariant.port shown)
-    shown.takes_out.capacity (omega (arith, least, shown.looks.floor)) left column same
+    shown.takes_out.capacity (omega (arith, least, shown.looks.floor)) met_by.left_is met_by.column same
 
 pub invariant_of-self-2 : goal.invariant_of-self-2
 invariant_of-self-2 c = (answers (goal.at.invariant_of-self-2 c).After-note).0

@@ -1,18 +1,16 @@
-use Rattle.std.proofs.Common.{◌≡◌, ℕ, List, Option, [], ◌∷◌, ◌++◌, Bool, None}
-use Rattle.std.proofs.Common.{Some, ◌<◌, length, set, refl, sym, ◌∙◌, ap, subst}
-use Rattle.tty_calls.specs.declared.journals.Who.TheVariants.{Caller}
-use Rattle.tty_calls.specs.Plain.{PlainEntry, waited, handle_of, call_of, entry_of}
-use Rattle.tty_terminal.specs.Terminals.{caller_at, has_begun}
+use Rattle.std.proofs.Common.{◌≡◌, ℕ, List, Option, None}
+use Rattle.std.proofs.Common.{Some, set, refl, sym, ◌∙◌, ap, subst}
+use Rattle.tty_calls.specs.Plain.{waited, handle_of, call_of}
+use Rattle.tty_terminal.specs.Terminals.{caller_at}
 use Rattle.tty_terminal.specs.Calls.{outcome}
 use Rattle.tty_terminal.specs.Steps.{MustWait, after_wait}
 use Rattle.port_core.specs.declared.waiting.WaitingCall.{WaitingCall}
-use Rattle.port_core.specs.Ports.{PortValue, kept_with, caller_entry}
-use Rattle.port_core.specs.Attempts.{IsReady, MustGoOnWaiting}
+use Rattle.port_core.specs.Ports.{PortValue, caller_entry}
+use Rattle.port_core.specs.Attempts.{MustGoOnWaiting}
 use Rattle.port_core.specs.Inside.{KeepsCalls, value_of}
-use Rattle.port_core.proofs.GoingOn.{made, entry_added, known_caller}
-use Rattle.port_core.proofs.Calls.{begun_is}
+use Rattle.port_core.proofs.GoingOn.{known_caller}
 use Rattle.port_core.proofs.CanWait.{can_wait_here}
-use Rattle.port_core.proofs.Answering.{IsTried, after_call, begins_to_wait}
+use Rattle.port_core.proofs.Answering.{IsTried, tries, IsNoted, noted, made_by_call, after_call, begins_to_wait}
 use Rattle.port_core.proofs.ports.Port.begin_wait.Goals as goal
 use Rattle.port_core.proofs.ports.Port.begin_wait.Goals.{After-note}
 
@@ -47,33 +45,18 @@ begins c =
     let step = c.args.step in
     let call = call_of c.args.call.now in
     let slots : List (Option WaitingCall) = c.self.inside.waiting.items in
-    let ready : IsReady v d step call =
-    subst (λ (w : PortValue). IsReady w d step call) (sym c.self.view_is) c.requires.ready in
-    let few : length v.journal < v.limit =
-    subst (λ (w : PortValue). length w.journal < w.limit) (sym c.self.view_is) c.requires.open.0 in
-    let begun : c.is_some-begun.result ≡ has_begun (caller_at v.terminal d) =
-    begun_is v.terminal d c.caller-state.result c.is_some-begun.result c.caller-state.ensures c.is_some-begun.ensures in
-    let tried : IsTried v slots d step call = record { keeps = c.self.invariant; few = few; ready = ready } in
-    let e : PlainEntry = caller_entry v d waited in
-    let entry : entry_of c.entry_of_call-entry.result ≡ e =
-    c.entry_of_call-entry.ensures
-    ∙ (λ i. record {
-      who = Caller d;
-      step = ready.next i;
-      part = (c.caller-state.ensures i).parts;
-      generation = c.generation-generation.ensures i;
-      event = waited;
-    }) in
-    let js : c.add.new.self.items ≡ v.journal ++ e ∷ [] =
-    entry_added v.journal _ _ _ e c.in_ok-reserve_entry.ensures.items c.add.ensures entry in
-    let kept_plain : c.note.new.self.items ≡ kept_with (has_begun (caller_at v.terminal d)) v.kept d step call =
-    c.note.ensures ∙ ap (λ (b : Bool). kept_with b v.kept d step call) begun in
+    let tried : IsTried v slots d step call =
+    tries v c.args.self.now slots d step call c.self.view_is c.self.invariant c.requires.open c.requires.ready in
+    let notes : IsNoted v d step call waited c.add.new.self.items c.note.new.self.items =
+    noted v d step _ call _ _ waited waited _ _ _ _ tried.ready.next c.caller-state.ensures c.is_some-begun.ensures
+    c.generation-generation.ensures refl c.entry_of_call-entry.ensures c.in_ok-reserve_entry.ensures.items
+    c.add.ensures c.note.ensures in
     let left : c.wait.new.self.terminal ≡ after_wait v.terminal d (handle_of call) =
     ap (λ r. r.terminal) c.wait.ensures ∙ ap (λ (h : ℕ). after_wait v.terminal d h) c.handle.ensures in
-    let same : now_of c ≡ after_call v d step call (after_wait v.terminal d (handle_of call)) v.flip e =
-    made v _ (after_wait v.terminal d (handle_of call)) _ (v.journal ++ e ∷ []) _
-    (kept_with (has_begun (caller_at v.terminal d)) v.kept d step call) _ v.flip v.flip left js kept_plain
-    (c.in_ok-copy.ensures.ok ∙ c.in_ok-reserve_entry.ensures.ok) refl in
+    let same : now_of c
+    ≡ after_call v d step call (after_wait v.terminal d (handle_of call)) v.flip (caller_entry v d waited) =
+    made_by_call v d step call waited _ _ _ _ _ v.flip notes left
+    (c.in_ok-copy.ensures.ok ∙ c.in_ok-reserve_entry.ensures.ok) in
     let must : MustWait (outcome v.terminal (caller_at v.terminal d) call) =
     subst (λ (w : PortValue). MustWait (outcome w.terminal (caller_at w.terminal d) call)) (sym c.self.view_is)
     c.requires.must in

@@ -33,7 +33,8 @@ returns-clause-after c =
     (subst (λ without. count < length front → ¬ IsInBounds 0 255 without (get_or front count other)) marks
     (c.push_run-count.ensures.stops other)) in
     let all = are_text (take count chars) (rw (sym same)
-    (subst (λ without. AllByRecursion (IsInBounds 0 255 without) (take count front)) marks c.push_run-count.ensures.run)) in
+    (subst (λ without. AllByRecursion (IsInBounds 0 255 without) (take count front)) marks
+    c.push_run-count.ensures.run)) in
     let before = c.self.inside.bytes.items in
     let piece = c.self-2.inside.piece in
     let bytes = c.self-2.inside.bytes.items in

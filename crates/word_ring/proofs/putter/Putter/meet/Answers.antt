@@ -1,5 +1,5 @@
 use Rattle.std.proofs.Common.{rules}
-use Rattle.word_ring.proofs.Keeps.{meets_head}
+use Rattle.word_ring.proofs.Joining.{meets_head}
 use Rattle.word_ring.proofs.putter.Putter.meet.Goals as goal
 
 pub join_seat-requires : goal.join_seat-requires

@@ -7,7 +7,8 @@ use Rattle.word_ring.specs.TakerParts.{IsTaking}
 use Rattle.word_ring.proofs.Taking.{after_end}
 use Rattle.word_ring.proofs.taker.Taker.finish.Goals.{After-drop-board}
 use Rattle.word_ring.specs.Ends.{AreReleased}
-use Rattle.word_ring.proofs.Keeps.{ends, compares}
+use Rattle.word_ring.proofs.Joining.{ends}
+use Rattle.word_ring.proofs.Keeps.{compares}
 use Rattle.word_ring.proofs.taker.Taker.finish.Goals as goal
 
 pub join_seat-requires : goal.join_seat-requires

@@ -1,6 +1,7 @@
 use Rattle.std.proofs.Common.{rules, ap, subst, ◌∙◌, ℕ, ◌≤◌, List, length, All}
 use Rattle.word_ring.specs.Ends.{AreReleased}
-use Rattle.word_ring.proofs.Keeps.{meets, compares}
+use Rattle.word_ring.proofs.Joining.{meets}
+use Rattle.word_ring.proofs.Keeps.{compares}
 use Rattle.word_ring.proofs.taker.Taker.meet.Goals as goal
 
 pub join_seat-requires : goal.join_seat-requires

@@ -1,5 +1,5 @@
 use Rattle.std.proofs.Common.{rules}
-use Rattle.word_ring.proofs.Keeps.{notes_head}
+use Rattle.word_ring.proofs.Joining.{notes_head}
 use Rattle.word_ring.proofs.taker.Taker.note.Goals as goal
 
 pub split_seat-requires : goal.split_seat-requires

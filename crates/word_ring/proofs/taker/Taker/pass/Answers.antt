@@ -9,7 +9,8 @@ use Rattle.word_ring.specs.Plays.{with_putter, with_put_past, held, putter_of, t
 use Rattle.word_ring.specs.PutterParts.{putter_state, IsPutting}
 use Rattle.word_ring.specs.Rule.{place}
 use Rattle.word_ring.specs.TakerParts.{taker_state, IsTaking}
-use Rattle.word_ring.proofs.Keeps.{leaves, ends, parts, puts_past, takes_past}
+use Rattle.word_ring.proofs.Joining.{leaves, ends, parts}
+use Rattle.word_ring.proofs.PastSlot.{puts_past, takes_past}
 use Rattle.word_ring.proofs.Passed.{both, level, whole, joined_length, pushed_length, pushed_last}
 use Rattle.word_ring.proofs.Passed.{put_by, passed, passed_by, putting, taking, passes}
 use Rattle.word_ring.proofs.taker.Taker.pass.Goals as goal
