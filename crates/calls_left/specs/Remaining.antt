@@ -9,7 +9,7 @@ use Rattle.play_base.specs.Roles.{calls_in}
 use Rattle.passed_calls.specs.declared.placed.PlacedCall.{PlacedCall}
 use Rattle.passed_calls.specs.Scripts.{AnyCall, plain, further, mixed, mixed_scripts}
 use Rattle.passed_calls.specs.Derived.{BlockPhase}
-use Rattle.passed_laws.specs.Passed.{begin_of}
+use Rattle.order_laws.specs.Passed.{begin_of}
 use Rattle.calls_left.specs.declared.remaining.Cursor.{Cursor}
 use Rattle.calls_left.specs.declared.remaining.NextCall.{NextCall}
 use Rattle.calls_left.specs.declared.remaining.NextCall.TheVariants as next

@@ -2,7 +2,7 @@
 use Rattle.std.proofs.Common.{◌≤◌, ℕ, ◌+◌, List, [], ◌∷◌, Option, None, Some, length, map, arith}
 use Rattle.tty_calls.specs.Plain.{hangs_up}
 use Rattle.passed_calls.specs.Derived.{by_caller, all_calls}
-use Rattle.passed_laws.proofs.Fewer.{by_one}
+use Rattle.order_laws.proofs.Fewer.{by_one}
 use Rattle.job_text.specs.Events.{JobEvent, own, passed, passed_down, sent, JobLog}
 use Rattle.job_text.specs.Sessions.{JobCall, JobsSession}
 use Rattle.passed_calls.specs.Scripts.{plain, further}

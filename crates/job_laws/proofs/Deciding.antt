@@ -20,19 +20,19 @@ use Rattle.tty_terminal.specs.Runs.{Leads as Run, is_of_call}
 use Rattle.tty_terminal.proofs.WaitLaws.{run_waits}
 use Rattle.legal_runs.specs.Legal.{name_at, has_script, flip_on, IsInPhase, phase_at}
 use Rattle.legal_runs.proofs.Truths.{if_true}
-use Rattle.one_order.specs.Order.{Place, first_place as place_first, next_place, place_after, can_go_on, is_waiting}
-use Rattle.one_order.specs.Order.{turn, AreInTurn}
-use Rattle.one_order.proofs.Places.{leads_place}
+use Rattle.legal_runs.specs.Order.{Place, first_place as place_first, next_place, place_after, can_go_on, is_waiting}
+use Rattle.legal_runs.specs.Order.{turn, AreInTurn}
+use Rattle.legal_runs.proofs.Places.{leads_place}
 use Rattle.job_control.specs.Control.{JobState}
 use Rattle.job_control.specs.declared.processes.Judged.TheVariants.{Pass}
 use Rattle.passed_calls.specs.declared.logs.Logged.{Logged}
 use Rattle.passed_calls.specs.Blocks.{names_on}
 use Rattle.passed_calls.specs.Journals.{terminal_at}
 use Rattle.passed_calls.specs.Scripts.{plain, further}
-use Rattle.passed_laws.proofs.Comings.{caller_event, part_begun}
-use Rattle.passed_laws.proofs.Journeys.{answers_in, one_for, drop_one, who_is, to_here, allowed_at, in_phase_at}
-use Rattle.passed_laws.proofs.Journeys.{entry_step, none_before}
-use Rattle.passed_laws.proofs.Steps.{step_other}
+use Rattle.order_laws.proofs.Comings.{caller_event, part_begun}
+use Rattle.order_laws.proofs.Journeys.{answers_in, one_for, drop_one, who_is, to_here, allowed_at, in_phase_at}
+use Rattle.order_laws.proofs.Journeys.{entry_step, none_before}
+use Rattle.order_laws.proofs.Steps.{step_other}
 use Rattle.logged_laws.proofs.Ahead.{Search, NoMore, Found, ahead as first_ahead}
 use Rattle.logged_laws.proofs.Entries.{stays_over, none_answered, is_answered, under_way, of_next as next_answered}
 use Rattle.logged_laws.proofs.Places.{IsPast, Here, logged_for, logged_in, few_behind}

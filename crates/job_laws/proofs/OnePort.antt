@@ -12,8 +12,8 @@ use Rattle.passed_calls.specs.Derived.{Passing, BlockPhase, blocks_of, by_caller
 use Rattle.passed_calls.specs.Logs.{logged_on}
 use Rattle.passed_calls.specs.Scripts.{calls_named}
 use Rattle.passed_calls.proofs.Names.{names_stay}
-use Rattle.passed_laws.specs.Passed.{steps_named, begin_of, IsPassedBy}
-use Rattle.passed_laws.specs.Same.{IsSamePort}
+use Rattle.order_laws.specs.Passed.{steps_named, begin_of, IsPassedBy}
+use Rattle.order_laws.specs.Same.{IsSamePort}
 use Rattle.logged_laws.proofs.OnePort.{IsPlayedOut, whole_run, few_answered, ends_all, shape, one_port as same_port}
 use Rattle.job_text.specs.Events.{JobLog}
 use Rattle.job_text.specs.Sessions.{JobsPhase, JobsSession, blocks_in, block_phase_of}

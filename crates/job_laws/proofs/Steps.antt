@@ -4,7 +4,7 @@ use Rattle.std.proofs.Common.{arith}
 use Rattle.std.proofs.lemmas.Option.{same_Some}
 use Rattle.tty_calls.specs.Plain.{PlainAnswer, done, PlainEntry}
 use Rattle.tty_calls.specs.Sessions.{PlainSession}
-use Rattle.passed_laws.specs.Sessions.{journal_in}
+use Rattle.order_laws.specs.Sessions.{journal_in}
 use Rattle.logged_laws.specs.Steps.{LogSteps, Leads as LogLeads, AreInTurn, IsLoggedAnswer, ComesAtOnce, IsNextAnswer}
 use Rattle.logged_laws.specs.Steps.{AreLogSteps}
 use Rattle.logged_laws.proofs.Places.{no_due}

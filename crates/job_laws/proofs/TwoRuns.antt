@@ -8,7 +8,7 @@ use Rattle.tty_calls.specs.declared.journals.Who.TheVariants.{Caller, Session}
 use Rattle.tty_calls.specs.Plain.{PlainCall, hung_up, PlainEntry}
 use Rattle.tty_calls.specs.Sessions.{PlainSession}
 use Rattle.tty_terminal.specs.Terminals.{Terminal, caller_at, has_begun}
-use Rattle.one_order.specs.Order.{Place, turn}
+use Rattle.legal_runs.specs.Order.{Place, turn}
 use Rattle.order_laws.specs.Growth.{HasShape}
 use Rattle.order_laws.proofs.Growing.{turn_same}
 use Rattle.job_control.specs.Control.{JobState}
@@ -17,7 +17,7 @@ use Rattle.job_control.specs.declared.processes.Judged.{Judged}
 use Rattle.job_control.specs.declared.processes.Judged.TheVariants.{Pass}
 use Rattle.passed_calls.specs.Journals.{terminal_at}
 use Rattle.passed_calls.specs.Scripts.{plain}
-use Rattle.passed_laws.proofs.Together.{terminal_of as one_terminal, there as both_there, waits as both_wait}
+use Rattle.order_laws.proofs.Together.{terminal_of as one_terminal, there as both_there, waits as both_wait}
 use Rattle.logged_laws.proofs.Places.{IsPast, Here}
 use Rattle.logged_laws.proofs.TwoLogs.{SameHead, Both, Settled, StandAt, AreOfCaller, LogsAlike}
 use Rattle.job_text.specs.Events.{JobEvent, own, passed, passed_down, sent, JobLog}

@@ -16,19 +16,19 @@ use Rattle.tty_terminal.specs.Terminals.{Terminal}
 use Rattle.tty_terminal.specs.Steps.{nothing_to_flush}
 use Rattle.tty_terminal.specs.Runs.{is_of_call}
 use Rattle.legal_runs.specs.Legal.{first_step, steps_in}
-use Rattle.one_order.specs.Order.{Place, first_place as place_first, turn, turn_after, turn_by_rank, turn_after_event}
-use Rattle.one_order.specs.Order.{AreInTurn, first_of, can_go_on, is_waiting, callers_of, is_of_consoles, due}
+use Rattle.legal_runs.specs.Order.{Place, first_place as place_first, turn, turn_after, turn_by_rank, turn_after_event}
+use Rattle.legal_runs.specs.Order.{AreInTurn, first_of, can_go_on, is_waiting, callers_of, is_of_consoles, due}
 use Rattle.passed_calls.specs.Blocks.{names_on}
 use Rattle.passed_calls.specs.Scripts.{CallerScript, calls_named}
 use Rattle.job_text.specs.Sessions.{JobCall, JobsPhase, JobsSession, blocks_in}
 use Rattle.job_steps.specs.Derived.{scripts_over as job_scripts_over, steps_before, IsStepIn}
 use Rattle.job_steps.specs.Steps.{JobsState, next_of, raised_at}
 use Rattle.job_one.specs.Played.{port_in}
-use Rattle.passed_laws.proofs.Journeys.{answer_count, answers_in}
+use Rattle.order_laws.proofs.Journeys.{answer_count, answers_in}
 use Rattle.logged_laws.proofs.Entries.{one_phase}
 use Rattle.logged_laws.proofs.TwoLogs.{WholeRun}
 use Rattle.job_laws.proofs.Steps.{job_log}
-use Rattle.passed_laws.proofs.Comings.{IsPartBy}
+use Rattle.order_laws.proofs.Comings.{IsPartBy}
 
 -- ---- the steps of a caller, phase by phase
 

@@ -3,7 +3,7 @@ use Rattle.std.specs.Prelude.{ℕ}
 use Rattle.tty_calls.specs.declared.journals.PortRun.{PortRun}
 use Rattle.tty_terminal.specs.Terminals.{Terminal}
 use Rattle.legal_runs.specs.Legal.{IsLegal}
-use Rattle.one_order.specs.Order.{IsInOneOrder}
+use Rattle.legal_runs.specs.Order.{IsInOneOrder}
 use Rattle.passed_calls.specs.Logs.{logged_on}
 use Rattle.job_text.specs.Events.{JobLog}
 use Rattle.job_text.specs.Sessions.{JobsSession}

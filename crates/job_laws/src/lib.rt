@@ -13,7 +13,7 @@ ghost use Rattle.job_text.specs.Sessions.{JobsSession};
 ghost use Rattle.job_steps.specs.Rows.{port_of, foreground_given, foreground_journal};
 ghost use Rattle.job_laws.specs.Rows.{asked_early, two_writes, logged_twice, two_writes_journal};
 ghost use Rattle.job_laws.specs.OneRun.{IsPlayedWhole};
-ghost use Rattle.passed_laws.specs.Same.{IsSamePort};
+ghost use Rattle.order_laws.specs.Same.{IsSamePort};
 ghost use Rattle.job_laws.specs.Sending.{jobs_at, IsReadPassed, IsPortSignalSent};
 
 /// A law: no read from the background is passed to the port. Of a read that was passed, through a handle that was live

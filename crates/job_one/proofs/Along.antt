@@ -25,8 +25,8 @@ use Rattle.one_thread.specs.Following.{FollowsBy, GoesAlong, StopsAlong as Stops
 use Rattle.play_base.specs.Roles.{Scene}
 use Rattle.job_text.specs.Sessions.{JobsSession}
 use Rattle.job_steps.specs.Derived.{passings_on}
-use Rattle.passed_laws.specs.Later.{ComesBy}
-use Rattle.passed_laws.specs.Begun.{HadBegun}
+use Rattle.order_laws.specs.Later.{ComesBy}
+use Rattle.order_laws.specs.Begun.{HadBegun}
 use Rattle.job_one.specs.Desk.{signals_of}
 use Rattle.job_one.specs.Events.{DeskState, all_sent_on, new_sent_on, HasRaised, StandsAt}
 use Rattle.job_one.specs.Along.{IsUpToDate, SendsNew, SendsAlone, SendsAlong, StopsAlong, StopsBy}

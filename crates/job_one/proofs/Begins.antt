@@ -8,8 +8,8 @@ use Rattle.passed_calls.specs.Derived.{BlockPhase, blocks_of}
 use Rattle.passed_calls.specs.Scripts.{CallerScript, block_of, calls_named}
 use Rattle.job_text.specs.Sessions.{JobCall, JobsPhase, JobsSession, block_phase_of}
 use Rattle.job_steps.specs.Derived.{block_phases, steps_before, IsStepIn}
-use Rattle.passed_laws.specs.Passed.{begin_of}
-use Rattle.passed_laws.proofs.Shares.{on_port, over, named, take_map, all_counted, begin_named, begin_nobody}
+use Rattle.order_laws.specs.Passed.{begin_of}
+use Rattle.order_laws.proofs.Shares.{on_port, over, named, take_map, all_counted, begin_named, begin_nobody}
 
 abbrev One : Type 0
 One = CallerScript JobCall

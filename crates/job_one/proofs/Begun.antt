@@ -19,9 +19,9 @@ use Rattle.passed_calls.specs.Journals.{Journal}
 use Rattle.play_base.specs.Roles.{Scene}
 use Rattle.one_thread.specs.Turns.{Adds}
 use Rattle.one_thread.specs.Acts.{MakesCall}
-use Rattle.passed_laws.specs.Later.{IsLater, ComesBy}
-use Rattle.passed_laws.proofs.Begun.{not_kept}
-use Rattle.passed_laws.proofs.Attempted.{call_is, own_is, step_is}
+use Rattle.order_laws.specs.Later.{IsLater, ComesBy}
+use Rattle.order_laws.proofs.Begun.{not_kept}
+use Rattle.order_laws.proofs.Attempted.{call_is, own_is, step_is}
 use Rattle.job_steps.specs.Steps.{is_of_step, first_place}
 
 three : (a b c : Bool) → a ≡ true → b ≡ true → c ≡ true → (a && b && c) ≡ true

@@ -31,15 +31,15 @@ use Rattle.job_one.specs.Desk.{signals_of, jobs_passed, due_passed}
 use Rattle.job_one.specs.Events.{DeskState, noted, told_at, leader_told, is_hangup_done}
 use Rattle.job_one.specs.Events.{answered_by_port, answered as answered_in}
 use Rattle.job_one.specs.Between.{value_at}
-use Rattle.passed_laws.specs.Begun.{begun_with}
+use Rattle.order_laws.specs.Begun.{begun_with}
 use Rattle.job_one.specs.Playing.{DeskValue, passings_with, IsPlayingJobs}
 use Rattle.job_one.specs.Frames.{Frame, IsAtTurn, IsNextTurn, IsForPort}
-use Rattle.passed_laws.specs.Begun.{WereOver}
-use Rattle.passed_laws.specs.Left.{HasGone}
+use Rattle.order_laws.specs.Begun.{WereOver}
+use Rattle.order_laws.specs.Left.{HasGone}
 use Rattle.job_one.specs.Taken.{Advances, TakesCall}
-use Rattle.passed_laws.proofs.Witnessed.{in_call}
-use Rattle.passed_laws.proofs.Attempted.{call_is}
-use Rattle.passed_laws.proofs.Overs.{over_call}
+use Rattle.order_laws.proofs.Witnessed.{in_call}
+use Rattle.order_laws.proofs.Attempted.{call_is}
+use Rattle.order_laws.proofs.Overs.{over_call}
 use Rattle.job_one.proofs.Phasing.{signals_stay}
 use Rattle.job_one.proofs.Begins.{step_in_phase}
 use Rattle.job_one.proofs.Turning.{due_goes_on, call_waits, call_answered}

@@ -6,7 +6,7 @@ use Rattle.job_text.specs.Events.{JobLog}
 use Rattle.job_text.specs.Sessions.{JobsSession}
 use Rattle.job_steps.specs.Derived.{block_phases, passings_on, derived}
 use Rattle.job_one.specs.Played.{begun_in, derived_with}
-use Rattle.passed_laws.specs.Sessions.{journal_on}
+use Rattle.order_laws.specs.Sessions.{journal_on}
 
 pub whole_derived : (session : JobsSession) (log : JobLog) (runs : List PortRun)
     → ((p : ℕ) → begun_in session log p (journal_on runs p) ≡ [])

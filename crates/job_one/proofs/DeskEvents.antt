@@ -11,7 +11,7 @@ use Rattle.tty_calls.specs.Plain.{drains, gets_counts, hangs_up, sends_packet, t
 use Rattle.tty_calls.specs.Plain.{count_is, got, number_is, modes_are, counts_are, refused, idle, PlainEntry}
 use Rattle.tty_terminal.specs.Terminals.{caller_at, has_begun}
 use Rattle.port_core.specs.Ports.{PortValue, IsPort, call_in}
-use Rattle.one_order.specs.Order.{is_of_consoles}
+use Rattle.legal_runs.specs.Order.{is_of_consoles}
 use Rattle.play_base.specs.Roles.{Scene}
 use Rattle.one_thread.specs.Turns.{role_numbers, IsTurn}
 use Rattle.play_base.specs.declared.roles.Role.{Role}
@@ -33,10 +33,10 @@ use Rattle.job_steps.proofs.Moments.{after_passed_now}
 use Rattle.job_steps.specs.Steps.{JobsState, next_of, next_call, with_jobs, answered_for}
 use Rattle.job_steps.specs.Steps.{after_own, after_passed, after_event, outcome_of, is_own}
 use Rattle.job_steps.specs.Steps.{is_of_step, judged_call, job_signal, foreground_target}
-use Rattle.passed_laws.specs.Later.{IsLater, ComesBy, WasAnswered}
+use Rattle.order_laws.specs.Later.{IsLater, ComesBy, WasAnswered}
 use Rattle.job_one.specs.Later.{port_with, HasLogged, HasGoneOn}
 use Rattle.job_one.specs.Ordered.{HasOrdered}
-use Rattle.passed_laws.specs.Begun.{HadBegun}
+use Rattle.order_laws.specs.Begun.{HadBegun}
 use Rattle.job_one.specs.Desk.{proc_in, call_after, signals_of, IsLoggedAt, ComeAtOnce, IsDeskAt, jobs_passed}
 use Rattle.job_one.specs.Desk.{due_passed}
 use Rattle.job_one.proofs.Logging.{log_stays, logs_own, logs_passed, logs_due, logs_down}

@@ -24,19 +24,19 @@ use Rattle.job_control.specs.Control.{JobState}
 use Rattle.job_steps.specs.Derived.{block_phases}
 use Rattle.job_text.specs.Events.{JobEvent, sent}
 use Rattle.job_steps.specs.Steps.{job_signal, foreground_target}
-use Rattle.passed_laws.specs.Later.{ComesBy}
+use Rattle.order_laws.specs.Later.{ComesBy}
 use Rattle.job_one.specs.Events.{DeskState, sent_on, new_sent_on}
 use Rattle.job_one.specs.Between.{value_at}
-use Rattle.passed_laws.specs.Begun.{begun_at}
+use Rattle.order_laws.specs.Begun.{begun_at}
 use Rattle.job_one.specs.Playing.{passings_with, IsPlayingJobs}
 use Rattle.job_one.specs.Frames.{Frame, IsOwing, IsAtTurn, IsNextTurn}
 use Rattle.job_one.specs.AfterLine.{FillsTurns, StopsTurns}
-use Rattle.passed_laws.specs.Begun.{WereOver}
-use Rattle.passed_laws.specs.Left.{HasGone}
+use Rattle.order_laws.specs.Begun.{WereOver}
+use Rattle.order_laws.specs.Left.{HasGone}
 use Rattle.job_one.specs.Taken.{TakesNoCall}
-use Rattle.passed_laws.proofs.InOrders.{same_entry}
-use Rattle.passed_laws.proofs.Witnessed.{in_turn}
-use Rattle.passed_laws.proofs.Overs.{over_other}
+use Rattle.order_laws.proofs.InOrders.{same_entry}
+use Rattle.order_laws.proofs.Witnessed.{in_turn}
+use Rattle.order_laws.proofs.Overs.{over_other}
 use Rattle.job_one.proofs.Along.{same_kept}
 use Rattle.job_one.proofs.Phasing.{signals_stay}
 use Rattle.job_one.proofs.Sending.{all_sent, sent_up, same_desk}

@@ -6,7 +6,7 @@ use Rattle.job_text.specs.Events.{JobEvent, own, passed, passed_down, sent, JobL
 use Rattle.job_text.specs.Sessions.{JobCall, JobsSession}
 use Rattle.job_steps.specs.Derived.{job_call_at, plain_call, passings_from, passings_on}
 use Rattle.job_one.specs.Latest.{latest_after, latest_on, passings_by}
-use Rattle.passed_laws.proofs.Laters.{events_more}
+use Rattle.order_laws.proofs.Laters.{events_more}
 
 from_more : (calls : ℕ → ℕ → Option JobCall) (latest : ℕ) (es : List JobEvent) (e : JobEvent)
     → passings_from calls latest (es ++ e ∷ [])

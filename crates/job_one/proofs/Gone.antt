@@ -13,9 +13,9 @@ use Rattle.job_text.specs.Sessions.{JobCall, JobsSession}
 use Rattle.job_steps.specs.Derived.{job_call_at}
 use Rattle.job_steps.specs.Steps.{Port, JobsState, jobs_before, proc_of, next_of}
 use Rattle.job_steps.specs.Steps.{next_call, judged_call, WentToPort, is_of_step, after_event}
-use Rattle.passed_laws.specs.Later.{IsLater, ComesBy}
+use Rattle.order_laws.specs.Later.{IsLater, ComesBy}
 use Rattle.job_one.specs.Later.{port_with, HasLogged, HasGoneOn}
-use Rattle.passed_laws.proofs.Laters.{later_before, terminal_now}
+use Rattle.order_laws.proofs.Laters.{later_before, terminal_now}
 use Rattle.job_steps.proofs.Moments.{now_before, event_behind}
 use Rattle.job_one.proofs.Begun.{first_next}
 

@@ -30,29 +30,29 @@ use Rattle.job_steps.specs.Derived.{block_phases, passings_on}
 use Rattle.job_one.specs.declared.controls.Due.{Due}
 use Rattle.job_one.specs.declared.controls.Due.TheVariants as due
 use Rattle.job_one.specs.Controls.{due_events, hangup_due}
-use Rattle.passed_laws.specs.Passed.{begin_of}
+use Rattle.order_laws.specs.Passed.{begin_of}
 use Rattle.job_one.specs.Latest.{latest_on}
 use Rattle.job_one.specs.Desk.{proc_in, signals_of}
 use Rattle.job_one.specs.Events.{DeskState, noted, all_noted, AreSignals, answered_own, own_outcome, controlled}
 use Rattle.job_one.specs.Between.{value_at}
-use Rattle.passed_laws.specs.Begun.{begun_at}
+use Rattle.order_laws.specs.Begun.{begun_at}
 use Rattle.job_one.specs.Playing.{AreLoggedBefore, hangup_with, IsPlayingJobs}
 use Rattle.job_one.specs.Frames.{Frame, IsOwing, IsAtTurn, IsNextTurn, IsHangingUp}
 use Rattle.job_one.specs.AfterLine.{IsFrameWithin}
 use Rattle.job_one.specs.Taken.{Advances, IsNextOf, TakesCall, TakesNoCall}
-use Rattle.passed_laws.proofs.Attempted.{attempts_as, call_is, makes_as}
+use Rattle.order_laws.proofs.Attempted.{attempts_as, call_is, makes_as}
 use Rattle.job_one.proofs.Following.{latest_is}
 use Rattle.live_handles.proofs.HandleNumbers.{are_numbers}
-use Rattle.passed_laws.proofs.Steps.{step_own}
+use Rattle.order_laws.proofs.Steps.{step_own}
 use Rattle.job_one.proofs.Mine.{logged_more}
 use Rattle.job_one.proofs.NextCalls.{phase_is, own_call_of, rests_own}
 use Rattle.job_one.proofs.OwnTurns.{all_as, procs_same, own_owing, own_advances, takes_own}
-use Rattle.passed_laws.proofs.Overs.{over_call}
+use Rattle.order_laws.proofs.Overs.{over_call}
 use Rattle.job_one.proofs.Phasing.{signals_stay}
 use Rattle.job_one.proofs.CallTurns.{call_no_flush}
 use Rattle.job_one.proofs.Turning.{hangup_begins, hangup_goes_on}
-use Rattle.passed_laws.proofs.Witnessed.{in_call}
-use Rattle.passed_laws.proofs.Hangups.{is_done}
+use Rattle.order_laws.proofs.Witnessed.{in_call}
+use Rattle.order_laws.proofs.Hangups.{is_done}
 
 -- ---- what is due is signals, and a hangup behind them
 

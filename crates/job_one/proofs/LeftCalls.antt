@@ -13,7 +13,7 @@ use Rattle.tty_base.specs.declared.counters.Signal.{Signal}
 use Rattle.tty_calls.specs.Plain.{PlainEntry, is_caller}
 use Rattle.tty_terminal.specs.Terminals.{caller_at}
 use Rattle.port_core.specs.Ports.{PortValue, IsPort, IsOpen, end_entry}
-use Rattle.one_order.specs.Order.{is_of_consoles}
+use Rattle.legal_runs.specs.Order.{is_of_consoles}
 use Rattle.play_base.specs.Scenes.{HasAnyOrder}
 use Rattle.one_thread.specs.Turns.{role_numbers, IsAbsent, PlaysOnIn}
 use Rattle.one_thread.specs.Acts.{AddsEntry, EndsCalls, InLast, PlaysEnd, PlaysLast}
@@ -26,30 +26,30 @@ use Rattle.one_thread.proofs.Possible.{by_rank}
 use Rattle.one_thread.proofs.Ready.{is_place}
 use Rattle.job_text.specs.Sessions.{JobCall, JobsSession}
 use Rattle.job_steps.specs.Derived.{block_phases, job_call_at}
-use Rattle.passed_laws.specs.Passed.{begin_of}
-use Rattle.passed_laws.specs.Witness.{scene_on}
+use Rattle.order_laws.specs.Passed.{begin_of}
+use Rattle.order_laws.specs.Witness.{scene_on}
 use Rattle.job_one.specs.Events.{DeskState}
 use Rattle.job_one.specs.Between.{value_at}
-use Rattle.passed_laws.specs.Begun.{begun_at}
+use Rattle.order_laws.specs.Begun.{begun_at}
 use Rattle.job_one.specs.Playing.{passings_with}
 use Rattle.job_one.specs.Frames.{Frame, IsAtTurn, IsNextTurn}
 use Rattle.job_one.specs.AfterLine.{HasProcs, BeginsTurns, EndsTurns}
 use Rattle.calls_left.specs.Remaining.{left_at, after_next, IsLeftTo}
 use Rattle.job_one.specs.Remaining.{AreLeft}
-use Rattle.passed_laws.specs.Begun.{WereOver}
-use Rattle.passed_laws.specs.Left.{HasGone}
+use Rattle.order_laws.specs.Begun.{WereOver}
+use Rattle.order_laws.specs.Left.{HasGone}
 use Rattle.job_one.specs.Taken.{Advances, TakesNoCall, TakesCall}
-use Rattle.passed_laws.specs.Left.{count_left, turns_left}
+use Rattle.order_laws.specs.Left.{count_left, turns_left}
 use Rattle.job_one.specs.Taken.{IsNextOf, IsBetweenTurns}
 use Rattle.job_one.specs.declared.turns.Taken.{Taken}
 use Rattle.job_one.proofs.Along.{same_kept}
-use Rattle.passed_laws.proofs.Steps.{step_own, step_other}
+use Rattle.order_laws.proofs.Steps.{step_own, step_other}
 use Rattle.job_one.proofs.NextCalls.{plays_it, rests_last}
-use Rattle.passed_laws.proofs.Overs.{over_other}
+use Rattle.order_laws.proofs.Overs.{over_other}
 use Rattle.job_one.proofs.Phasing.{signals_stay}
 use Rattle.job_one.proofs.Turning.{last_goes_on}
-use Rattle.passed_laws.proofs.InOrders.{same_entry}
-use Rattle.passed_laws.proofs.Witnessed.{in_last}
+use Rattle.order_laws.proofs.InOrders.{same_entry}
+use Rattle.order_laws.proofs.Witnessed.{in_last}
 
 -- ---- lists
 

@@ -26,8 +26,8 @@ use Rattle.job_steps.specs.Steps.{proc_of, next_of, next_call, with_jobs, answer
 use Rattle.job_steps.specs.Steps.{after_event, rest_of, outcome_of, is_own, OwnAnswer, IsOfCall, WentToPort}
 use Rattle.job_steps.specs.Steps.{first_place}
 use Rattle.job_steps.specs.Steps.{job_signal, raised_at, foreground_target, IsSent, IsAllowed, Leads}
-use Rattle.passed_laws.specs.Later.{IsLater, ComesBy, WasAnswered}
-use Rattle.passed_laws.proofs.Laters.{later_before, terminal_now, long_enough, on_more}
+use Rattle.order_laws.specs.Later.{IsLater, ComesBy, WasAnswered}
+use Rattle.order_laws.proofs.Laters.{later_before, terminal_now, long_enough, on_more}
 use Rattle.job_steps.proofs.Moments.{later_not, passed_at}
 use Rattle.job_one.specs.Later.{port_with, HasLogged, HasGoneOn}
 

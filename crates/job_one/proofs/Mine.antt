@@ -4,7 +4,7 @@ use Rattle.passed_calls.specs.Derived.{Passing, by_caller}
 use Rattle.job_text.specs.Events.{JobEvent, JobLog}
 use Rattle.job_text.specs.Sessions.{JobsSession}
 use Rattle.job_steps.specs.Derived.{job_call_at, passings_on}
-use Rattle.passed_laws.proofs.Steps.{own_more, other_more}
+use Rattle.order_laws.proofs.Steps.{own_more, other_more}
 use Rattle.job_one.specs.Latest.{latest_on, passings_by}
 use Rattle.job_one.proofs.Following.{passings_more}
 

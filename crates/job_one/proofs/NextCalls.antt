@@ -27,19 +27,19 @@ use Rattle.job_text.specs.Events.{JobEvent}
 use Rattle.job_text.specs.Sessions.{JobCall, JobsPhase, JobsSession, blocks_in}
 use Rattle.job_steps.specs.Derived.{block_phases, job_call_at, scripts_over, passings_on}
 use Rattle.job_steps.specs.Steps.{Port, JobsState, WentToPort, is_own, judged_call, judged_answer}
-use Rattle.passed_laws.specs.Passed.{begin_of}
-use Rattle.passed_laws.specs.Witness.{scene_on}
-use Rattle.passed_laws.specs.Later.{IsLater}
+use Rattle.order_laws.specs.Passed.{begin_of}
+use Rattle.order_laws.specs.Witness.{scene_on}
+use Rattle.order_laws.specs.Later.{IsLater}
 use Rattle.job_one.specs.Later.{port_with}
 use Rattle.job_one.specs.Desk.{call_after}
 use Rattle.job_one.specs.Events.{DeskState}
 use Rattle.job_one.specs.Between.{value_at}
-use Rattle.passed_laws.specs.Begun.{begun_at}
+use Rattle.order_laws.specs.Begun.{begun_at}
 use Rattle.job_one.specs.Playing.{next_passing}
 use Rattle.job_one.specs.Frames.{Frame, IsOwing, IsAtTurn, IsNextTurn, IsForPort, IsOwnCall}
 use Rattle.job_one.specs.AfterLine.{IsFrameWithin}
 use Rattle.job_one.specs.Taken.{GoesToPort, IsNextOf}
-use Rattle.passed_laws.proofs.Steps.{tail, tail_one}
+use Rattle.order_laws.proofs.Steps.{tail, tail_one}
 use Rattle.job_one.proofs.Turning.{call_begins, call_continues}
 
 -- ---- the calls of a session keep the limits

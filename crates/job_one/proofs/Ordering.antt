@@ -9,7 +9,7 @@ use Rattle.tty_calls.specs.Plain.{PlainAnswer, PlainEntry}
 use Rattle.tty_calls.specs.Sessions.{PlainSession, call_at}
 use Rattle.tty_terminal.specs.Terminals.{Terminal}
 use Rattle.port_core.specs.Ports.{PortValue, IsPort}
-use Rattle.one_order.specs.Order.{is_of_consoles, first_place, place_after, turn as whose_turn}
+use Rattle.legal_runs.specs.Order.{is_of_consoles, first_place, place_after, turn as whose_turn}
 use Rattle.play_base.specs.Roles.{Scene}
 use Rattle.one_thread.specs.Turns.{role_numbers, IsTurn, Plays}
 use Rattle.play_base.specs.declared.roles.Role.{Role}
@@ -29,12 +29,12 @@ use Rattle.job_text.specs.Events.{JobEvent, own, passed, passed_down, sent, JobL
 use Rattle.job_text.specs.Sessions.{JobsSession}
 use Rattle.job_steps.specs.Steps.{Port, JobsState, first_state, after_event, job_signal, Leads}
 use Rattle.job_steps.specs.Order.{AreSent, IsEventInTurn, AreEventsInTurn}
-use Rattle.passed_laws.specs.Witness.{scene_on}
-use Rattle.passed_laws.specs.Later.{IsLater, ComesBy}
+use Rattle.order_laws.specs.Witness.{scene_on}
+use Rattle.order_laws.specs.Later.{IsLater, ComesBy}
 use Rattle.job_one.specs.Later.{port_with, HasLogged}
 use Rattle.job_one.specs.Ordered.{HasOrdered}
-use Rattle.passed_laws.proofs.Laters.{later_before, terminal_now, on_more, front}
-use Rattle.passed_laws.proofs.Witnessed.{consoles_in}
+use Rattle.order_laws.proofs.Laters.{later_before, terminal_now, on_more, front}
+use Rattle.order_laws.proofs.Witnessed.{consoles_in}
 
 turns_more : (played : PlainSession) (port : Port) (s u : JobsState) (log : JobLog) (l : Logged JobEvent)
     → Leads port s log u

@@ -18,7 +18,7 @@ use Rattle.legal_runs.specs.Legal.{phase_at}
 use Rattle.passed_calls.specs.Derived.{Passing, AreInSteps, by_caller}
 use Rattle.passed_calls.specs.Journals.{terminal_after}
 use Rattle.port_core.specs.Ports.{PortValue, IsPort, call_in}
-use Rattle.one_order.specs.Order.{is_of_consoles}
+use Rattle.legal_runs.specs.Order.{is_of_consoles}
 use Rattle.play_base.specs.Roles.{Scene}
 use Rattle.play_base.specs.Scenes.{AreAtFirst}
 use Rattle.one_thread.specs.Stages.{EndsAfterLine}
@@ -37,20 +37,20 @@ use Rattle.order_laws.proofs.Shapes.{phases_same, at_phase}
 use Rattle.job_text.specs.Events.{JobLog}
 use Rattle.job_text.specs.Sessions.{JobsSession}
 use Rattle.job_steps.specs.Derived.{block_phases, passings_on}
-use Rattle.passed_laws.specs.Passed.{begin_of}
-use Rattle.passed_laws.specs.Later.{ComesBy}
-use Rattle.passed_laws.specs.Witness.{scene_on, HasPassed, IsPlaying}
+use Rattle.order_laws.specs.Passed.{begin_of}
+use Rattle.order_laws.specs.Later.{ComesBy}
+use Rattle.order_laws.specs.Witness.{scene_on, HasPassed, IsPlaying}
 use Rattle.job_one.specs.Desk.{signals_of}
 use Rattle.job_one.specs.Events.{DeskState}
 use Rattle.job_one.specs.Along.{SendsAlong}
-use Rattle.passed_laws.specs.Begun.{begun_at}
+use Rattle.order_laws.specs.Begun.{begun_at}
 use Rattle.job_one.specs.Playing.{DeskValue, passings_with, next_passing, AreLoggedBefore, IsPlayingJobs}
 use Rattle.job_one.specs.Between.{value_at, passed_by, IsBeforeJobs}
 use Rattle.job_one.proofs.Along.{keeps, kept_by, had_by, same_kept, stands_on}
-use Rattle.passed_laws.proofs.Laters.{run_after}
+use Rattle.order_laws.proofs.Laters.{run_after}
 use Rattle.job_one.proofs.Raised.{entry_still}
-use Rattle.passed_laws.proofs.Witnessed.{begins_line, begins_playing, end_on}
-use Rattle.passed_laws.proofs.Steps.{tail_none}
+use Rattle.order_laws.proofs.Witnessed.{begins_line, begins_playing, end_on}
+use Rattle.order_laws.proofs.Steps.{tail_none}
 
 -- nobody has begun a call
 rests : (session : JobsSession) (p : ℕ) (log : JobLog) (d : DeskValue) (begun : ℕ → Bool)

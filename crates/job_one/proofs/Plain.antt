@@ -14,7 +14,7 @@ use Rattle.job_text.specs.declared.sessions.PortProc.{PortProc}
 use Rattle.job_text.specs.Sessions.{JobsPhase, phase_with, session_with}
 use Rattle.job_steps.specs.Derived.{block_phases}
 use Rattle.order_laws.specs.Growth.{names_in}
-use Rattle.passed_laws.specs.Passed.{IsOfBlocks}
+use Rattle.order_laws.specs.Passed.{IsOfBlocks}
 
 abbrev block_phase : JobsPhase → BlockPhase
 block_phase phase = record { lines = phase.lines; ticks = phase.ticks; blocks = map block_of phase.callers }

@@ -17,7 +17,7 @@ use Rattle.passed_calls.specs.Journals.{Journal}
 use Rattle.passed_calls.specs.Scripts.{plain}
 use Rattle.port_core.specs.Attempts.{PlainTried, done_by, took_part, must_wait, Attempts}
 use Rattle.port_core.specs.Ports.{PortValue, IsPort, end_entry}
-use Rattle.one_order.specs.Order.{is_of_consoles}
+use Rattle.legal_runs.specs.Order.{is_of_consoles}
 use Rattle.play_base.specs.Roles.{Scene}
 use Rattle.play_base.specs.Scenes.{HasAnyOrder, HasOneOrder}
 use Rattle.one_thread.specs.Turns.{role_numbers, who_of, IsTurn, PlaysOnIn, TakesTurn}
@@ -33,28 +33,28 @@ use Rattle.job_text.specs.Events.{JobEvent, own, passed, passed_down, sent, JobL
 use Rattle.job_text.specs.Sessions.{JobCall, JobsSession}
 use Rattle.job_steps.specs.Derived.{block_phases, IsStepIn, job_call_at, plain_call, passings_on}
 use Rattle.job_steps.specs.Steps.{outcome_of, is_own, judged_call, job_signal, foreground_target}
-use Rattle.passed_laws.specs.Passed.{begin_of, IsOfBlocks}
+use Rattle.order_laws.specs.Passed.{begin_of, IsOfBlocks}
 use Rattle.passed_calls.specs.Within.{AreBlocksWithin}
-use Rattle.passed_laws.specs.Witness.{scene_on, IsCalling}
-use Rattle.passed_laws.specs.Later.{ComesBy}
+use Rattle.order_laws.specs.Witness.{scene_on, IsCalling}
+use Rattle.order_laws.specs.Later.{ComesBy}
 use Rattle.job_one.specs.Latest.{latest_on}
-use Rattle.passed_laws.specs.Begun.{HadBegun}
+use Rattle.order_laws.specs.Begun.{HadBegun}
 use Rattle.job_one.specs.Desk.{proc_in, call_after, signals_of, IsDeskAt, jobs_passed, due_passed}
-use Rattle.passed_laws.specs.Begun.{begun_at}
+use Rattle.order_laws.specs.Begun.{begun_at}
 use Rattle.job_one.specs.Playing.{DeskValue, step_at, next_passing, passings_with}
-use Rattle.passed_laws.specs.Begun.{begun_with}
+use Rattle.order_laws.specs.Begun.{begun_with}
 use Rattle.job_one.specs.Playing.{hangup_of, hangup_with, AreLoggedBefore, IsPlayingJobs}
-use Rattle.passed_laws.proofs.InOrders.{same_entry}
-use Rattle.passed_laws.proofs.Witnessed.{in_turn, in_call, in_last, turn_on, call_on, last_on, can_take}
-use Rattle.passed_laws.proofs.BegunBefore.{begun_same, begun_still, begun_elsewhere, begun_by_none}
-use Rattle.passed_laws.proofs.Attempted.{makes_as, attempts_as, begins, other_is}
+use Rattle.order_laws.proofs.InOrders.{same_entry}
+use Rattle.order_laws.proofs.Witnessed.{in_turn, in_call, in_last, turn_on, call_on, last_on, can_take}
+use Rattle.order_laws.proofs.BegunBefore.{begun_same, begun_still, begun_elsewhere, begun_by_none}
+use Rattle.order_laws.proofs.Attempted.{makes_as, attempts_as, begins, other_is}
 use Rattle.job_one.proofs.Begun.{of_step_is}
-use Rattle.passed_laws.proofs.Attempted.{begins_by_wait, begins_by_part, begun_now, was_answered, ended_now}
-use Rattle.passed_laws.proofs.Steps.{tail, tail_same, tail_none, tail_one}
+use Rattle.order_laws.proofs.Attempted.{begins_by_wait, begins_by_part, begun_now, was_answered, ended_now}
+use Rattle.order_laws.proofs.Steps.{tail, tail_same, tail_none, tail_one}
 use Rattle.job_one.proofs.Mine.{logged_more, by_own, by_other}
-use Rattle.passed_laws.proofs.Steps.{step_own, step_other, step_rises, before_more}
-use Rattle.passed_laws.proofs.Callings.{comes, kept_grows, begun_elsewhere_too, begun_here, passes_then, rests_at}
-use Rattle.passed_laws.proofs.Callings.{begun_then, plays_as, more_is_next, next_begins, next_continues}
+use Rattle.order_laws.proofs.Steps.{step_own, step_other, step_rises, before_more}
+use Rattle.order_laws.proofs.Callings.{comes, kept_grows, begun_elsewhere_too, begun_here, passes_then, rests_at}
+use Rattle.order_laws.proofs.Callings.{begun_then, plays_as, more_is_next, next_begins, next_continues}
 use Rattle.job_one.proofs.DeskEvents.{desk_sends, desk_hangs_up, desk_raises}
 use Rattle.job_one.proofs.DeskEvents.{desk_answers, desk_stays, desk_begins, desk_passes}
 

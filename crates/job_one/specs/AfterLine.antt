@@ -16,7 +16,7 @@ use Rattle.job_text.specs.Events.{JobEvent}
 use Rattle.job_text.specs.Sessions.{JobCall, JobsSession, blocks_in}
 use Rattle.job_text.specs.Within.{IsJobsSessionWithin}
 use Rattle.job_steps.specs.Derived.{block_phases}
-use Rattle.passed_laws.specs.Passed.{begin_of, IsOfBlocks}
+use Rattle.order_laws.specs.Passed.{begin_of, IsOfBlocks}
 use Rattle.job_one.specs.Desk.{proc_in}
 use Rattle.job_one.specs.Events.{DeskState}
 use Rattle.job_one.specs.Between.{value_at}

@@ -6,7 +6,7 @@ use Rattle.port_core.specs.Ports.{PortValue}
 use Rattle.play_base.specs.Roles.{Scene}
 use Rattle.job_text.specs.Sessions.{JobsSession}
 use Rattle.job_steps.specs.Derived.{passings_on}
-use Rattle.passed_laws.specs.Begun.{HadBegun}
+use Rattle.order_laws.specs.Begun.{HadBegun}
 use Rattle.job_one.specs.Desk.{signals_of}
 use Rattle.job_one.specs.Events.{DeskState, IsSameDesk, StandsAt, new_sent_on}
 

@@ -9,8 +9,8 @@ use Rattle.play_base.specs.Roles.{Scene}
 use Rattle.order_laws.specs.Agreed.{IsBeforeEach}
 use Rattle.job_text.specs.Sessions.{JobsSession}
 use Rattle.job_steps.specs.Derived.{block_phases, passings_on}
-use Rattle.passed_laws.specs.Passed.{begin_of, AreBefore}
-use Rattle.passed_laws.specs.Witness.{HasPassed}
+use Rattle.order_laws.specs.Passed.{begin_of, AreBefore}
+use Rattle.order_laws.specs.Witness.{HasPassed}
 use Rattle.job_one.specs.Events.{DeskState}
 use Rattle.job_one.specs.Along.{IsUpToDate}
 use Rattle.job_one.specs.Playing.{DeskValue, AreLoggedBefore}

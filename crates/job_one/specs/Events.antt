@@ -21,7 +21,7 @@ use Rattle.passed_calls.specs.Scripts.{further}
 use Rattle.job_text.specs.declared.calls.OwnCall.{OwnCall}
 use Rattle.job_steps.specs.Steps.{ControlOutcome, any_access, judged_answer, outcome_of}
 use Rattle.job_steps.specs.Steps.{sent_by_stop, job_signal, foreground_target}
-use Rattle.passed_laws.specs.Later.{ComesBy}
+use Rattle.order_laws.specs.Later.{ComesBy}
 use Rattle.job_one.specs.Desk.{signals_of, IsDeskAt}
 
 -- the access that an act needs

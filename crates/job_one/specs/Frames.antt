@@ -7,7 +7,7 @@ use Rattle.tty_calls.specs.Plain.{PlainCall, hangs_up}
 use Rattle.tty_terminal.specs.Terminals.{handle_at}
 use Rattle.port_core.specs.Ports.{PortValue}
 use Rattle.handle_table.specs.Handles.{is_live}
-use Rattle.one_order.specs.Order.{is_of_consoles}
+use Rattle.legal_runs.specs.Order.{is_of_consoles}
 use Rattle.play_base.specs.Roles.{Scene}
 use Rattle.one_thread.specs.Turns.{role_numbers, IsTurn}
 use Rattle.play_base.specs.declared.roles.Role.{Role}
@@ -19,13 +19,13 @@ use Rattle.job_text.specs.Events.{JobEvent, passed_down}
 use Rattle.job_text.specs.Sessions.{JobCall, JobsSession}
 use Rattle.job_steps.specs.Derived.{block_phases}
 use Rattle.job_steps.specs.Steps.{is_own, judged_call}
-use Rattle.passed_laws.specs.Passed.{begin_of}
-use Rattle.passed_laws.specs.Witness.{IsCalling}
+use Rattle.order_laws.specs.Passed.{begin_of}
+use Rattle.order_laws.specs.Witness.{IsCalling}
 use Rattle.job_one.specs.Desk.{proc_in, call_after, signals_of}
 use Rattle.job_one.specs.Events.{DeskState}
 use Rattle.job_one.specs.Between.{value_at}
 use Rattle.job_one.specs.Latest.{latest_on}
-use Rattle.passed_laws.specs.Begun.{begun_at, begun_with}
+use Rattle.order_laws.specs.Begun.{begun_at, begun_with}
 use Rattle.job_one.specs.Playing.{passings_with, hangup_with, IsPlayingJobs}
 
 -- what stays meanwhile: the session and its plain part, the scripts of each scene that may be played, the port behind

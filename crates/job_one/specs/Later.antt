@@ -2,7 +2,7 @@
 use Rattle.std.specs.Prelude.{◌≡◌, ◌≤◌, ◌+◌, ℕ, length}
 use Rattle.port_core.specs.Ports.{PortValue}
 use Rattle.passed_calls.specs.Journals.{Journal}
-use Rattle.passed_laws.specs.Later.{IsLater}
+use Rattle.order_laws.specs.Later.{IsLater}
 use Rattle.passed_calls.specs.Logs.{logged_on}
 use Rattle.job_text.specs.Events.{JobLog}
 use Rattle.job_text.specs.Sessions.{JobsSession}

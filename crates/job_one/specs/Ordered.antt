@@ -9,8 +9,8 @@ use Rattle.job_text.specs.Events.{JobLog}
 use Rattle.job_text.specs.Sessions.{JobsSession}
 use Rattle.job_steps.specs.Steps.{first_state}
 use Rattle.job_steps.specs.Order.{AreEventsInTurn}
-use Rattle.passed_laws.specs.Witness.{scene_on}
-use Rattle.passed_laws.specs.Later.{IsLater}
+use Rattle.order_laws.specs.Witness.{scene_on}
+use Rattle.order_laws.specs.Later.{IsLater}
 use Rattle.job_one.specs.Later.{port_with}
 
 pub record HasOrdered (first : Scene) (session : JobsSession) (log : JobLog) (v : PortValue) : Type 0 where

@@ -15,9 +15,9 @@ use Rattle.job_text.specs.Sessions.{JobsSession, blocks_in}
 use Rattle.job_steps.specs.Derived.{block_phases, job_call_at, plain_call, passings_on, derived}
 use Rattle.job_steps.specs.Steps.{Port, JobsState, first_state, next_of, names_of_port, Leads, IsJobsRun}
 use Rattle.job_steps.specs.Order.{AreEventsInTurn}
-use Rattle.passed_laws.specs.Passed.{steps_named}
-use Rattle.passed_laws.specs.Sessions.{BlockSession, played_session, answer_count, begun_call, begun_calls, journal_in}
-use Rattle.passed_laws.specs.Sessions.{journal_on, AreNotFull}
+use Rattle.order_laws.specs.Passed.{steps_named}
+use Rattle.order_laws.specs.Sessions.{BlockSession, played_session, answer_count, begun_call, begun_calls, journal_in}
+use Rattle.order_laws.specs.Sessions.{journal_on, AreNotFull}
 use Rattle.tty_base.specs.Sizes.{MOST_ENTRIES}
 
 -- ---- the session that was played, also where a journal is full

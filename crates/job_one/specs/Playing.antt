@@ -11,10 +11,10 @@ use Rattle.job_control.specs.Control.{JobState}
 use Rattle.job_text.specs.Events.{JobEvent, JobLog}
 use Rattle.job_text.specs.Sessions.{JobsSession}
 use Rattle.job_steps.specs.Derived.{block_phases, plain_call, passings_on}
-use Rattle.passed_laws.specs.Begun.{begun_at}
+use Rattle.order_laws.specs.Begun.{begun_at}
 use Rattle.job_one.specs.Latest.{latest_on}
 use Rattle.job_one.specs.Desk.{call_after, IsDeskAt}
-use Rattle.passed_laws.specs.Witness.{IsPlaying}
+use Rattle.order_laws.specs.Witness.{IsPlaying}
 
 -- job control at a desk, the next step of each caller, how many signals were sent on, and what is due
 pub record DeskValue : Type 0 where

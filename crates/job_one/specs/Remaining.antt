@@ -4,7 +4,7 @@ use Rattle.one_thread.specs.Turns.{IsAbsent}
 use Rattle.play_base.specs.declared.roles.Role.{Role}
 use Rattle.job_text.specs.Sessions.{JobCall, JobsSession}
 use Rattle.job_steps.specs.Derived.{block_phases, job_call_at}
-use Rattle.passed_laws.specs.Passed.{begin_of}
+use Rattle.order_laws.specs.Passed.{begin_of}
 use Rattle.calls_left.specs.Remaining.{left_at, IsLeftTo}
 
 -- what is left to the callers of phase k by their roles; who is absent has none

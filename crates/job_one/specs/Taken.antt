@@ -10,9 +10,9 @@ use Rattle.job_control.specs.declared.processes.Judged.TheVariants.{Pass}
 use Rattle.job_text.specs.Sessions.{JobCall}
 use Rattle.job_steps.specs.Derived.{block_phases}
 use Rattle.job_steps.specs.Steps.{judged_answer}
-use Rattle.passed_laws.specs.Passed.{begin_of}
-use Rattle.passed_laws.specs.Begun.{WereOver}
-use Rattle.passed_laws.specs.Left.{HasGone}
+use Rattle.order_laws.specs.Passed.{begin_of}
+use Rattle.order_laws.specs.Begun.{WereOver}
+use Rattle.order_laws.specs.Left.{HasGone}
 use Rattle.job_one.specs.Desk.{proc_in, call_after}
 use Rattle.job_one.specs.Events.{DeskState}
 use Rattle.job_one.specs.Frames.{Frame, IsAtTurn}

@@ -5,7 +5,7 @@ ghost use Rattle.std.specs.Prelude.{IfOk, IfErr, IsTrue, MatchBool, OnErr, OnOk,
 ghost use Rattle.std.specs.Prelude.{length, slice_index_or, slice_set, sum};
 ghost use Rattle.tty_calls.specs.Plain.{call_of};
 ghost use Rattle.tty_terminal.specs.Terminals.{caller_at, has_begun};
-ghost use Rattle.one_order.specs.Order.{is_of_consoles};
+ghost use Rattle.legal_runs.specs.Order.{is_of_consoles};
 ghost use Rattle.one_thread.specs.declared.after_line.Turn.TheVariants as turn;
 ghost use Rattle.job_control.specs.declared.processes.Judged.TheVariants.{Pass};
 ghost use Rattle.passed_calls.specs.Scripts.{plain};
@@ -13,7 +13,7 @@ ghost use Rattle.job_steps.specs.Steps.{judged_answer, judged_call};
 ghost use Rattle.job_one.specs.Frames.{Frame, IsAtTurn, IsNextTurn};
 ghost use Rattle.job_one.specs.AfterLine.{IsFrameWithin, BeginsTurns, EndsTurns, StopsTurns};
 ghost use Rattle.calls_left.specs.Remaining.{after_next, any_call_of, left_at};
-ghost use Rattle.passed_laws.specs.Left.{turns_left};
+ghost use Rattle.order_laws.specs.Left.{turns_left};
 ghost use Rattle.job_one.specs.Taken.{GoesToPort, IsBetweenTurns, IsNextOf, TakesCall};
 
 use crate::desks::Desk;

@@ -14,7 +14,7 @@ ghost use Rattle.word_ring.specs.Ends.{PutterState};
 ghost use Rattle.port_core.specs.Flips.{after_meeting};
 ghost use Rattle.port_core.specs.Phases.{EndsLine};
 ghost use Rattle.port_core.specs.Ports.{PortValue, IsPort, call_in};
-ghost use Rattle.one_order.specs.Order.{is_of_consoles};
+ghost use Rattle.legal_runs.specs.Order.{is_of_consoles};
 ghost use Rattle.play_base.specs.Roles.{Scene};
 ghost use Rattle.one_thread.specs.Acts.{FlushesOnce};
 ghost use Rattle.one_thread.specs.Turns.{role_numbers, IsTurn, Adds};
@@ -31,11 +31,11 @@ ghost use Rattle.passed_calls.specs.Scripts.{plain};
 ghost use Rattle.job_text.specs.Events.{JobEvent, own, passed, passed_down, sent, JobLog};
 ghost use Rattle.job_text.specs.Sessions.{JobCall, JobsSession};
 ghost use Rattle.job_steps.specs.Steps.{outcome_of, is_own, is_of_step, judged_call, job_signal, foreground_target};
-ghost use Rattle.passed_laws.specs.Later.{ComesBy, WasAnswered};
+ghost use Rattle.order_laws.specs.Later.{ComesBy, WasAnswered};
 ghost use Rattle.job_steps.specs.Derived.{IsStepIn, passings_on};
 ghost use Rattle.job_one.specs.Along.{SendsAlong, StopsAlong};
 ghost use Rattle.job_one.specs.Events.{DeskState, new_sent_on, IsSameDesk, HasRaised, StandsAt};
-ghost use Rattle.passed_laws.specs.Begun.{HadBegun};
+ghost use Rattle.order_laws.specs.Begun.{HadBegun};
 ghost use Rattle.job_one.specs.Desk.{proc_in, call_after, signals_of, IsDeskAt, jobs_passed, due_passed};
 
 /// Signals come of flushes alone.

@@ -9,8 +9,8 @@ ghost use Rattle.job_text.specs.Sessions.{JobsSession, session_with};
 ghost use Rattle.job_text.specs.declared.calls.OwnCall.{OwnCall};
 ghost use Rattle.job_text.specs.declared.sessions.PortProc.{PortProc};
 ghost use Rattle.job_steps.specs.Derived.{block_phases, derived};
-ghost use Rattle.passed_laws.specs.Passed.{IsOfBlocks};
-ghost use Rattle.passed_laws.specs.Sessions.{journal_on};
+ghost use Rattle.order_laws.specs.Passed.{IsOfBlocks};
+ghost use Rattle.order_laws.specs.Sessions.{journal_on};
 ghost use Rattle.job_one.specs.Played.{begun_in, derived_with};
 
 /// Where no port has begun a call that it has not answered, the session that was played is the derived one.

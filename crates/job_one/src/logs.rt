@@ -18,7 +18,7 @@ ghost use Rattle.job_steps.specs.Derived.{IsStepIn};
 ghost use Rattle.job_steps.specs.Steps.{Port, JobsState, first_place, is_of_step, judged_call, jobs_before, proc_of};
 ghost use Rattle.job_steps.specs.Steps.{next_of, next_call, with_jobs, answered_for, after_own, after_passed};
 ghost use Rattle.job_steps.specs.Steps.{after_event, outcome_of, is_own, job_signal, foreground_target};
-ghost use Rattle.passed_laws.specs.Later.{IsLater, ComesBy, WasAnswered};
+ghost use Rattle.order_laws.specs.Later.{IsLater, ComesBy, WasAnswered};
 ghost use Rattle.job_one.specs.Later.{port_with, HasLogged, HasGoneOn};
 
 /// The log of a port grows by one event, of each kind, and stays one as the port makes entries.

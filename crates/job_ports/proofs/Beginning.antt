@@ -12,7 +12,7 @@ use Rattle.tty_calls.specs.Limits.{IsWithinLimits}
 use Rattle.tty_calls.specs.Sessions.{PlainScript, PlainPhase, phase_of, session_of}
 use Rattle.tty_calls.specs.Sessions.{script_of, scripts_on, line_on, ticks_on}
 use Rattle.legal_runs.specs.Legal.{phase_at}
-use Rattle.one_order.specs.Order.{is_of_consoles}
+use Rattle.legal_runs.specs.Order.{is_of_consoles}
 use Rattle.play_base.specs.Roles.{Scene, scene_of, names_in, role_in}
 use Rattle.play_base.specs.Casting.{AreNumbered, HaveSameCallers, IsNumbered, own_scripts, scripts_in, scripts_at}
 use Rattle.play_base.specs.Casting.{cast_of}
@@ -23,7 +23,7 @@ use Rattle.job_text.specs.declared.calls.OwnCall.{OwnCall}
 use Rattle.job_text.specs.declared.sessions.JobsSession.{JobsSession as KeptSession}
 use Rattle.job_text.specs.Sessions.{JobCall, JobsSession, jobs_session_of, own_of}
 use Rattle.job_text.specs.Within.{IsJobsSessionWithin}
-use Rattle.passed_laws.specs.Filled.{AreNextSteps}
+use Rattle.order_laws.specs.Filled.{AreNextSteps}
 use Rattle.calls_left.specs.Remaining.{calls_of_port}
 use Rattle.job_one.specs.Remaining.{AreLeft}
 use Rattle.job_ports.specs.declared.phases.JobStation.{JobStation}

@@ -21,7 +21,7 @@ use Rattle.job_text.specs.declared.calls.OwnCall.{OwnCall}
 use Rattle.job_text.specs.declared.sessions.PortProc.{PortProc}
 use Rattle.job_text.specs.Sessions.{JobCall, JobsPhase, block_phase_of, phase_with, session_with}
 use Rattle.job_text.specs.Within.{IsJobsSessionWithin}
-use Rattle.passed_laws.proofs.Shares.{blocks_one}
+use Rattle.order_laws.proofs.Shares.{blocks_one}
 use Rattle.passed_ports.proofs.Leaving.{mixed_names}
 
 abbrev One : Type 0

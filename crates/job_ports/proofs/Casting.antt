@@ -24,16 +24,16 @@ use Rattle.job_text.specs.Sessions.{JobCall, JobsPhase, JobsSession, block_phase
 use Rattle.job_text.specs.Sessions.{blocks_in}
 use Rattle.job_text.specs.Within.{IsJobsSessionWithin}
 use Rattle.job_steps.specs.Derived.{block_phases, job_call_at}
-use Rattle.passed_laws.specs.Passed.{IsPassedBy, begin_of}
+use Rattle.order_laws.specs.Passed.{IsPassedBy, begin_of}
 use Rattle.calls_left.specs.Remaining.{calls_of_port}
 use Rattle.job_one.specs.Remaining.{AreLeft}
-use Rattle.passed_laws.proofs.Blocks.{of_blocks, same_shape}
+use Rattle.order_laws.proofs.Blocks.{of_blocks, same_shape}
 use Rattle.job_one.proofs.Plain.{plain_of_blocks}
 use Rattle.job_one.specs.Played.{by_blocks}
 use Rattle.passed_ports.specs.Ports.{IsSceneOf}
 use Rattle.job_ports.specs.Between.{IsBetween}
 use Rattle.job_ports.specs.declared.phases.JobStation.{JobStation}
-use Rattle.passed_laws.proofs.Shares.{on_port, over, all_counted, blocks_one}
+use Rattle.order_laws.proofs.Shares.{on_port, over, all_counted, blocks_one}
 use Rattle.passed_ports.proofs.Leaving.{mixed_names, below_if, get_map, HasShares, AreSharesLeft, shares_left}
 use Rattle.passed_ports.proofs.Leaving.{own_scripts_of, at_of}
 use Rattle.job_ports.proofs.Playing.{blocks_same}

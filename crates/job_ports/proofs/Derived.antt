@@ -37,8 +37,8 @@ use Rattle.job_ports.proofs.Casting.{names_are}
 use Rattle.job_ports.proofs.Joining.{no_passings}
 use Rattle.passed_ports.proofs.Started.{zeros_at, zeros_long}
 use Rattle.passed_ports.proofs.Joining.{run_at}
-use Rattle.passed_laws.specs.Sessions.{journal_on}
-use Rattle.passed_laws.proofs.Answering.{stepped, set_length, answers_more}
+use Rattle.order_laws.specs.Sessions.{journal_on}
+use Rattle.order_laws.proofs.Answering.{stepped, set_length, answers_more}
 
 abbrev Placed : Type 0
 Placed = List (PlacedCall OwnCall)

@@ -5,7 +5,7 @@ use Rattle.play_base.specs.Roles.{Scene}
 use Rattle.play_base.proofs.PortLemmas.{phases_over}
 use Rattle.order_laws.proofs.Shapes.{phases_same}
 use Rattle.job_text.specs.Sessions.{JobsSession}
-use Rattle.passed_laws.specs.Witness.{scene_on}
+use Rattle.order_laws.specs.Witness.{scene_on}
 use Rattle.job_ports.specs.declared.phases.JobStation.{JobStation}
 use Rattle.job_ports.specs.Ports.{IsJobsEnd}
 use Rattle.job_ports.specs.Between.{IsBetween}

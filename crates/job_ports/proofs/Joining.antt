@@ -24,7 +24,7 @@ use Rattle.job_one.proofs.Deriving.{whole_derived}
 use Rattle.job_ports.specs.Ports.{AreFirstPlayed}
 use Rattle.passed_ports.proofs.Started.{nothing_begun}
 use Rattle.passed_ports.proofs.Joining.{past_passings, passed_within, each_whole, each_played}
-use Rattle.passed_laws.specs.Sessions.{journal_on, begun_calls}
+use Rattle.order_laws.specs.Sessions.{journal_on, begun_calls}
 
 -- ---- what a port was passed, by its events
 

@@ -11,7 +11,7 @@ use Rattle.job_text.specs.Events.{JobEvent, own, passed, passed_down, sent, JobL
 use Rattle.job_steps.specs.Steps.{Port, JobsState, proc_of, next_of, next_call, raised_at, IsSent}
 use Rattle.job_steps.specs.Steps.{IsAllowed, after_own, answered_for, after_passed, after_event, Leads}
 use Rattle.job_one.specs.Played.{is_answer_to, answered_by}
-use Rattle.passed_laws.proofs.Answering.{one_or_none, stepped, set_length, answers_more}
+use Rattle.order_laws.proofs.Answering.{one_or_none, stepped, set_length, answers_more}
 use Rattle.job_one.proofs.Keeping.{Keeps, own_keeps, passed_keeps}
 use Rattle.job_one.proofs.Rising.{raised_rise}
 use Rattle.passed_ports.proofs.Joining.{below_if}

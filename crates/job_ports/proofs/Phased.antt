@@ -28,24 +28,24 @@ use Rattle.order_laws.proofs.Shapes.{phases_same, at_phase}
 use Rattle.passed_calls.specs.Derived.{Passing, by_caller}
 use Rattle.job_text.specs.Sessions.{JobCall, JobsSession}
 use Rattle.job_steps.specs.Derived.{block_phases, passings_on}
-use Rattle.passed_laws.specs.Passed.{begin_of}
-use Rattle.passed_laws.specs.Witness.{scene_on, HasPassed}
-use Rattle.passed_laws.specs.Filled.{scripts_in}
-use Rattle.passed_laws.specs.Begun.{HadBegun}
+use Rattle.order_laws.specs.Passed.{begin_of}
+use Rattle.order_laws.specs.Witness.{scene_on, HasPassed}
+use Rattle.order_laws.specs.Filled.{scripts_in}
+use Rattle.order_laws.specs.Begun.{HadBegun}
 use Rattle.job_one.specs.Desk.{proc_in}
 use Rattle.job_one.specs.Events.{DeskState, IsSameDesk}
 use Rattle.job_one.specs.Along.{SendsAlong, StopsAlong, StopsBy}
 use Rattle.job_one.specs.Between.{value_at, passed_by, IsBeforeJobs}
-use Rattle.passed_laws.specs.Begun.{begun_at}
+use Rattle.order_laws.specs.Begun.{begun_at}
 use Rattle.job_one.specs.Playing.{passings_with, next_passing, IsPlayingJobs}
 use Rattle.job_one.specs.Frames.{Frame}
 use Rattle.job_one.specs.AfterLine.{HasProcs, BeginsTurns, EndsTurns, FillsTurns, StopsTurns}
 use Rattle.job_one.specs.Remaining.{AreLeft}
-use Rattle.passed_laws.proofs.Adding.{blocks_same}
+use Rattle.order_laws.proofs.PassedAdding.{blocks_same}
 use Rattle.job_one.proofs.Along.{same_kept}
-use Rattle.passed_laws.proofs.Casts.{roles_each}
+use Rattle.order_laws.proofs.Casts.{roles_each}
 use Rattle.job_one.proofs.Phasing.{phase_begins, phase_ends}
-use Rattle.passed_laws.proofs.Witnessed.{begins_line, end_on}
+use Rattle.order_laws.proofs.Witnessed.{begins_line, end_on}
 use Rattle.job_ports.specs.declared.phases.JobStation.{JobStation}
 use Rattle.job_ports.specs.Ports.{IsJobsFull}
 use Rattle.job_ports.specs.Between.{IsStoppedBy, Setting, BeginsPhase}

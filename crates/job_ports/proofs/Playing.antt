@@ -35,18 +35,18 @@ use Rattle.job_text.specs.Events.{JobEvent, events_on}
 use Rattle.job_text.specs.Sessions.{JobsPhase, JobsSession, block_phase_of, blocks_in}
 use Rattle.job_steps.specs.Derived.{block_phases, passings_on}
 use Rattle.job_steps.specs.Steps.{first_state, raised_at, job_signal}
-use Rattle.passed_laws.specs.Passed.{steps_named, begin_of}
-use Rattle.passed_laws.specs.Witness.{scene_on}
-use Rattle.passed_laws.specs.Later.{IsLater}
+use Rattle.order_laws.specs.Passed.{steps_named, begin_of}
+use Rattle.order_laws.specs.Witness.{scene_on}
+use Rattle.order_laws.specs.Later.{IsLater}
 use Rattle.job_one.specs.Later.{port_with}
 use Rattle.job_one.specs.Desk.{signals_of, IsDeskAt}
 use Rattle.job_one.specs.Events.{DeskState}
 use Rattle.job_one.specs.Between.{value_at, passed_by}
-use Rattle.passed_laws.specs.Begun.{begun_at}
+use Rattle.order_laws.specs.Begun.{begun_at}
 use Rattle.job_one.specs.Playing.{passings_with}
 use Rattle.job_one.specs.Played.{port_in, IsLogged, IsLoggedWhole, by_blocks, all_passed}
-use Rattle.passed_laws.proofs.Laters.{front, terminal_now}
-use Rattle.passed_laws.specs.Sessions.{journal_in}
+use Rattle.order_laws.proofs.Laters.{front, terminal_now}
+use Rattle.order_laws.specs.Sessions.{journal_in}
 use Rattle.job_one.proofs.Raised.{entry_still}
 use Rattle.passed_ports.specs.Ports.{IsSceneOf}
 use Rattle.job_ports.specs.Ports.{IsPortPlayed, IsJobsEnd, IsJobsFull}

@@ -17,7 +17,7 @@ use Rattle.job_one.specs.Later.{port_with}
 use Rattle.job_one.specs.Desk.{IsDeskAt}
 use Rattle.job_one.specs.Events.{DeskState}
 use Rattle.job_one.specs.Between.{value_at}
-use Rattle.passed_laws.specs.Begun.{begun_at}
+use Rattle.order_laws.specs.Begun.{begun_at}
 use Rattle.job_one.specs.Playing.{passings_with}
 use Rattle.job_one.specs.Played.{answered_by, all_passed}
 use Rattle.passed_ports.proofs.Started.{zeros_at}

@@ -30,15 +30,15 @@ use Rattle.job_text.specs.Sessions.{JobsSession, jobs_session_of, own_of, procs_
 use Rattle.job_text.specs.Within.{IsProc, IsJobsSessionWithin}
 use Rattle.job_steps.specs.Derived.{block_phases, passings_on}
 use Rattle.job_steps.specs.Steps.{JobsState, first_state, proc_named}
-use Rattle.passed_laws.specs.Passed.{AreBefore, begin_of, steps_named}
-use Rattle.passed_laws.specs.Witness.{HasPassed}
+use Rattle.order_laws.specs.Passed.{AreBefore, begin_of, steps_named}
+use Rattle.order_laws.specs.Witness.{HasPassed}
 use Rattle.job_one.specs.Later.{port_with}
 use Rattle.job_one.specs.Desk.{proc_in, signals_of, IsDeskAt}
 use Rattle.job_one.specs.Events.{DeskState}
 use Rattle.job_one.specs.Playing.{AreLoggedBefore}
 use Rattle.job_one.specs.AfterLine.{HasProcs}
-use Rattle.passed_laws.proofs.Adding.{blocks_same}
-use Rattle.passed_laws.proofs.Opens.{opens_with_none, nothing_before}
+use Rattle.order_laws.proofs.PassedAdding.{blocks_same}
+use Rattle.order_laws.proofs.Opens.{opens_with_none, nothing_before}
 use Rattle.job_ports.specs.Callers.{AreCallers}
 use Rattle.job_ports.specs.Between.{IsBetween, IsDeskOpened}
 use Rattle.job_ports.specs.declared.phases.JobStation.{JobStation}

@@ -8,7 +8,7 @@ use Rattle.tty_calls.specs.declared.sessions.Script.{Script}
 use Rattle.tty_calls.specs.Sessions.{script_of, scripts_on, line_on, ticks_on}
 use Rattle.legal_runs.specs.Legal.{phase_at}
 use Rattle.port_core.specs.Ports.{PortValue, IsPort}
-use Rattle.one_order.specs.Order.{is_of_consoles}
+use Rattle.legal_runs.specs.Order.{is_of_consoles}
 use Rattle.play_base.specs.Roles.{Scene, scene_of, names_in, role_in}
 use Rattle.play_base.specs.Casting.{HaveSameCallers, own_scripts, scripts_at, cast_of}
 use Rattle.play_base.specs.declared.roles.Role.{Role}
@@ -20,7 +20,7 @@ use Rattle.job_text.specs.Within.{IsJobsSessionWithin}
 use Rattle.job_one.specs.AfterLine.{HasProcs}
 use Rattle.job_one.specs.Between.{IsBeforeJobs}
 use Rattle.job_one.specs.Events.{DeskState}
-use Rattle.passed_laws.specs.Filled.{AreNextSteps}
+use Rattle.order_laws.specs.Filled.{AreNextSteps}
 use Rattle.job_one.specs.Remaining.{AreLeft}
 use Rattle.job_one.specs.Played.{by_blocks}
 use Rattle.job_ports.specs.declared.phases.JobStation.{JobStation}

@@ -13,12 +13,12 @@ use Rattle.order_laws.specs.Agreed.{Agrees, IsLike}
 use Rattle.job_text.specs.Events.{JobEvent, JobLog}
 use Rattle.job_text.specs.Sessions.{JobsSession}
 use Rattle.job_steps.specs.Derived.{block_phases}
-use Rattle.passed_laws.specs.Witness.{HasPassed}
+use Rattle.order_laws.specs.Witness.{HasPassed}
 use Rattle.passed_ports.specs.Ports.{IsPlayedSo, ArePlayedFirst}
 use Rattle.job_one.specs.Desk.{IsDeskAt}
 use Rattle.job_one.specs.Events.{DeskState}
 use Rattle.job_one.specs.Between.{value_at, IsBeforeJobs}
-use Rattle.passed_laws.specs.Begun.{begun_at}
+use Rattle.order_laws.specs.Begun.{begun_at}
 use Rattle.job_one.specs.Playing.{passings_with}
 use Rattle.job_one.specs.Played.{begun_in, IsJobPlayedOn, by_blocks, all_passed}
 

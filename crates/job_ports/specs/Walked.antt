@@ -7,7 +7,7 @@ use Rattle.derived_session.specs.declared.passed.PassedDown.{PassedDown}
 use Rattle.derived_session.specs.declared.passed.Down.TheVariants as down
 use Rattle.derived_session.specs.Begun.{begun_down, one_more, after_all}
 use Rattle.job_text.specs.Events.{JobEvent, own, passed, passed_down, sent, JobLog, events_on}
-use Rattle.passed_laws.specs.Sessions.{journal_on}
+use Rattle.order_laws.specs.Sessions.{journal_on}
 
 -- what was passed down so far, how many calls of each caller were answered, and the latest step that was answered
 -- without the port

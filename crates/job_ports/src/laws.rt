@@ -20,7 +20,7 @@ ghost use Rattle.job_one.specs.Played.{derived_with, AreJobsPlayed, all_passed, 
 ghost use Rattle.passed_calls.specs.Within.{ArePassedWithin};
 ghost use Rattle.passed_ports.specs.Ports.{IsSceneOf};
 ghost use Rattle.job_ports.specs.Ports.{IsJobsEnd, IsJobsFull, IsPortPlayed, AreFirstPlayed};
-ghost use Rattle.passed_laws.specs.Sessions.{journal_on};
+ghost use Rattle.order_laws.specs.Sessions.{journal_on};
 
 /// A port whose phases were played is hung up, and then it was played: its log is whole.
 pub fn a_port_hung_up_was_played()

@@ -9,7 +9,7 @@ ghost use Rattle.job_text.specs.Sessions.{jobs_session_of, own_of};
 ghost use Rattle.job_text.specs.Within.{IsJobsSessionWithin};
 ghost use Rattle.job_one.specs.Played.{derived_with, all_passed};
 ghost use Rattle.job_ports.specs.Walked.{all_down, down_on, first_walk, walked_by, walked_over};
-ghost use Rattle.passed_laws.specs.Sessions.{journal_on};
+ghost use Rattle.order_laws.specs.Sessions.{journal_on};
 ghost use Rattle.derived_session.specs.Begun.{one_more};
 
 use derived_session::{Down, PassedDown, add_begun, derive};

@@ -9,7 +9,7 @@ ghost use Rattle.job_steps.specs.Derived.{passings_on};
 ghost use Rattle.job_one.specs.Played.{AreJobsPlayed, begun_in};
 ghost use Rattle.passed_calls.specs.Within.{ArePassedWithin};
 ghost use Rattle.job_ports.specs.Ports.{AreFirstPlayed};
-ghost use Rattle.passed_laws.specs.Sessions.{journal_on};
+ghost use Rattle.order_laws.specs.Sessions.{journal_on};
 
 use crate::passing::derive_session;
 use crate::ports::play_port;

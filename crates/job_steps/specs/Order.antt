@@ -5,7 +5,7 @@ use Rattle.tty_base.specs.declared.lines.Overrun.{Overrun}
 use Rattle.tty_calls.specs.declared.journals.Who.{Who}
 use Rattle.tty_calls.specs.declared.journals.Who.TheVariants.{Caller}
 use Rattle.tty_calls.specs.Sessions.{PlainSession, call_at}
-use Rattle.one_order.specs.Order.{turn, place_after, first_place, IsInOneOrder}
+use Rattle.legal_runs.specs.Order.{turn, place_after, first_place, IsInOneOrder}
 use Rattle.passed_calls.specs.Logs.{logged_on}
 use Rattle.job_text.specs.Events.{JobEvent, own, passed, passed_down, sent, JobLog}
 use Rattle.job_steps.specs.Derived.{derived}

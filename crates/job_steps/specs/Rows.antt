@@ -24,7 +24,7 @@ use Rattle.job_text.specs.Sessions.{JobCall, JobsPhase, JobsSession}
 use Rattle.job_steps.specs.Derived.{derived}
 use Rattle.job_steps.specs.Steps.{Port, JobsState, after_event}
 use Rattle.job_control.specs.Rows.{shell, job_of}
-use Rattle.one_order.specs.Rows.{played_with}
+use Rattle.legal_runs.specs.Rows.{played_with}
 
 -- ---- sessions of one port, with a shell that leads session 1, and a job of it
 

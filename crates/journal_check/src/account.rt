@@ -91,7 +91,7 @@ pub(crate) fn is_accounted(
 {
     let overruns = run.line.overruns.as_slice();
     if !are_shown(capacity_of(session, port), overruns) {
-        return Ok(false);
+        return Ok(false); // an overrun where the buffer was not full
     }
     let received = received_on(alloc, session, port, overruns)?;
     if !is_kept(session, port, run, &received) {

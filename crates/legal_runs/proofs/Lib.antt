@@ -7,3 +7,5 @@ pub mod ScriptLemmas
 pub mod LineLemmas
 pub mod EventLemmas
 pub mod CallerLemmas
+pub mod OrderRows
+pub mod Places

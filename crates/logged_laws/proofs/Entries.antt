@@ -12,13 +12,13 @@ use Rattle.tty_terminal.specs.Terminals.{Terminal, opening, caller_at, has_begun
 use Rattle.tty_terminal.specs.Runs.{is_of_call, phase_after}
 use Rattle.legal_runs.specs.Legal.{first_step, steps_in, flip_on, IsInPhase, IsCallOf}
 use Rattle.passed_calls.specs.Journals.{terminal_at, IsAnswerAt}
-use Rattle.passed_laws.specs.Sessions.{journal_in}
-use Rattle.passed_laws.proofs.Comings.{same_phase}
-use Rattle.passed_laws.proofs.Fewer.{first_rises, by_next}
-use Rattle.passed_laws.proofs.Journeys.{Journey, answer_count, answers_of, answers_in, answers_split, answers_later}
-use Rattle.passed_laws.proofs.Journeys.{between, drop_one, one_for, answer_there, in_phase_at, next_at, begun_later}
-use Rattle.passed_laws.proofs.Journeys.{over_later, phase_later, entry_step, begins_at, ends_at}
-use Rattle.passed_laws.proofs.Journeys.{next_counts as counts_next, phase_behind as goes_behind}
+use Rattle.order_laws.specs.Sessions.{journal_in}
+use Rattle.order_laws.proofs.Comings.{same_phase}
+use Rattle.order_laws.proofs.Fewer.{first_rises, by_next}
+use Rattle.order_laws.proofs.Journeys.{Journey, answer_count, answers_of, answers_in, answers_split, answers_later}
+use Rattle.order_laws.proofs.Journeys.{between, drop_one, one_for, answer_there, in_phase_at, next_at, begun_later}
+use Rattle.order_laws.proofs.Journeys.{over_later, phase_later, entry_step, begins_at, ends_at}
+use Rattle.order_laws.proofs.Journeys.{next_counts as counts_next, phase_behind as goes_behind}
 
 -- a step that lies between the bounds of two phases is of one phase
 pub one_phase : (bound : ℕ → ℕ) (j k step : ℕ)

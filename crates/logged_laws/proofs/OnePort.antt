@@ -13,8 +13,8 @@ use Rattle.tty_terminal.specs.Standing.{Standing, standing_in, at_first}
 use Rattle.tty_terminal.specs.Runs.{Leads as Run}
 use Rattle.tty_terminal.proofs.StandingLaws.{run_stands}
 use Rattle.legal_runs.specs.Legal.{flip_on, first_step, steps_in, IsLegal}
-use Rattle.one_order.specs.Order.{Place, first_place, is_of_consoles}
-use Rattle.one_order.proofs.Places.{phase_from, leads_phase, leads_place}
+use Rattle.legal_runs.specs.Order.{Place, first_place, is_of_consoles}
+use Rattle.legal_runs.proofs.Places.{phase_from, leads_phase, leads_place}
 use Rattle.order_laws.specs.Growth.{HasShape}
 use Rattle.order_laws.proofs.Growing.{place_same}
 use Rattle.order_laws.proofs.NextEntry.{KeepsOrder}
@@ -22,12 +22,12 @@ use Rattle.order_laws.proofs.OneRun.{comes_to, two_runs}
 use Rattle.passed_calls.specs.declared.logs.Logged.{Logged}
 use Rattle.passed_calls.specs.Derived.{Passing, BlockPhase, all_calls}
 use Rattle.passed_calls.specs.Logs.{logged_on}
-use Rattle.passed_laws.specs.Passed.{IsPassedBy}
-use Rattle.passed_laws.specs.Same.{IsSamePort}
-use Rattle.passed_laws.proofs.Blocks.{of_blocks, same_shape}
-use Rattle.passed_laws.proofs.Fewer.{few_steps, next_below}
-use Rattle.passed_laws.proofs.Journeys.{answers_in, next_in}
-use Rattle.passed_laws.proofs.Together.{Stand}
+use Rattle.order_laws.specs.Passed.{IsPassedBy}
+use Rattle.order_laws.specs.Same.{IsSamePort}
+use Rattle.order_laws.proofs.Blocks.{of_blocks, same_shape}
+use Rattle.order_laws.proofs.Fewer.{few_steps, next_below}
+use Rattle.order_laws.proofs.Journeys.{answers_in, next_in}
+use Rattle.order_laws.proofs.Together.{Stand}
 use Rattle.logged_laws.specs.Steps.{LogSteps, Leads, AreInTurn, AreLogSteps}
 use Rattle.logged_laws.proofs.Places.{logged_in, Here, few_logged, none_left, from_zero}
 use Rattle.logged_laws.proofs.TwoLogs.{WholeRun, named, Both, LogsAlike, Are, settles, stay_alike}

@@ -9,10 +9,10 @@ use Rattle.tty_calls.specs.Plain.{PlainAnswer, PlainEntry, hangs_up}
 use Rattle.tty_calls.specs.Sessions.{PlainSession}
 use Rattle.passed_calls.specs.declared.logs.Logged.{Logged}
 use Rattle.passed_calls.specs.Journals.{IsAnswerBy, IsAnswerAt}
-use Rattle.passed_laws.specs.Sessions.{journal_in}
-use Rattle.passed_laws.proofs.Comings.{same_number}
-use Rattle.passed_laws.proofs.Journeys.{answers_of, answers_in, answer_one, answer_there, drop_one, fewer_later}
-use Rattle.passed_laws.proofs.Journeys.{one_for}
+use Rattle.order_laws.specs.Sessions.{journal_in}
+use Rattle.order_laws.proofs.Comings.{same_number}
+use Rattle.order_laws.proofs.Journeys.{answers_of, answers_in, answer_one, answer_there, drop_one, fewer_later}
+use Rattle.order_laws.proofs.Journeys.{one_for}
 use Rattle.logged_laws.specs.Steps.{LogSteps, Leads, AreInTurn, state_before, IsLoggedAnswer, ComesAtOnce}
 use Rattle.logged_laws.specs.Steps.{AreLogSteps}
 

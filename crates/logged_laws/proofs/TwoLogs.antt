@@ -9,17 +9,17 @@ use Rattle.tty_calls.specs.Sessions.{PlainSession, call_at, counts_on}
 use Rattle.tty_terminal.specs.Terminals.{Terminal, opening, caller_at, has_begun}
 use Rattle.tty_terminal.specs.Runs.{is_of_call, AgreesAt}
 use Rattle.legal_runs.specs.Legal.{flip_on}
-use Rattle.one_order.specs.Order.{Place, next_place}
+use Rattle.legal_runs.specs.Order.{Place, next_place}
 use Rattle.order_laws.proofs.NextEntry.{IsRest, coming_call}
 use Rattle.order_laws.proofs.OneRun.{StayAlike}
 use Rattle.passed_calls.specs.declared.logs.Logged.{Logged}
 use Rattle.passed_calls.specs.Journals.{terminal_at}
-use Rattle.passed_laws.specs.Sessions.{journal_in}
-use Rattle.passed_laws.proofs.Comings.{end_comes, begun_calls, at_step, calls_come as both_come, IsAnswered}
-use Rattle.passed_laws.proofs.Comings.{answer_or_not, none_of, one_of, same_number}
-use Rattle.passed_laws.proofs.Journeys.{Journey, answer_count, get_here}
-use Rattle.passed_laws.proofs.Together.{Stand, terminal_of as one_terminal, terminal_of' as two_terminal}
-use Rattle.passed_laws.proofs.Together.{there as both_there, stand_next as stands_next}
+use Rattle.order_laws.specs.Sessions.{journal_in}
+use Rattle.order_laws.proofs.Comings.{end_comes, begun_calls, at_step, calls_come as both_come, IsAnswered}
+use Rattle.order_laws.proofs.Comings.{answer_or_not, none_of, one_of, same_number}
+use Rattle.order_laws.proofs.Journeys.{Journey, answer_count, get_here}
+use Rattle.order_laws.proofs.Together.{Stand, terminal_of as one_terminal, terminal_of' as two_terminal}
+use Rattle.order_laws.proofs.Together.{there as both_there, stand_next as stands_next}
 use Rattle.logged_laws.specs.Steps.{LogSteps, state_before, ComesAtOnce, IsNextAnswer, AreLogSteps}
 use Rattle.logged_laws.proofs.Places.{IsPast, Here, no_due, here_behind, DueHead, due_head, IsHangupDue, quiet_on}
 use Rattle.logged_laws.proofs.Places.{AnswerHead, answer_head, answer_on, answers_hangup, before_one}

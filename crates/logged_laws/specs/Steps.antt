@@ -5,7 +5,7 @@ use Rattle.tty_calls.specs.Plain.{hangs_up, PlainAnswer, PlainEntry}
 use Rattle.tty_calls.specs.Sessions.{PlainSession}
 use Rattle.passed_calls.specs.declared.logs.Logged.{Logged}
 use Rattle.passed_calls.specs.Journals.{Journal, IsAnswerAt}
-use Rattle.passed_laws.specs.Sessions.{journal_in}
+use Rattle.order_laws.specs.Sessions.{journal_in}
 
 -- Of a state: after how many entries its latest event was logged, what must be logged next, and each caller's next
 -- call. Of an event: the answer of the port that it logs, with its caller, and the handle that it hangs up. Then the

@@ -23,7 +23,7 @@ use Rattle.port_core.specs.Phases.{EndsPhase}
 use Rattle.port_core.specs.Ports.{PortValue, call_in, phase_entry}
 use Rattle.play_base.specs.Roles.{Scene}
 use Rattle.play_base.proofs.Meetings.{has_put_met, has_put_at, sent_met}
-use Rattle.one_order.proofs.Places.{in_phases_more}
+use Rattle.legal_runs.proofs.Places.{in_phases_more}
 use Rattle.tty_port.specs.Seen.{run_after}
 use Rattle.play_base.specs.declared.stations.Station.{Station}
 use Rattle.many_threads.specs.declared.shared_phase.PhaseWork.{PhaseWork}

@@ -14,7 +14,7 @@ use Rattle.port_core.specs.Ports.{PortValue, IsPort, call_in}
 use Rattle.port_cell.specs.declared.kept.Stamped.{Stamped}
 use Rattle.port_cell.specs.Entries.{Keeps}
 use Rattle.play_base.specs.Roles.{Scene, PlainRole}
-use Rattle.one_order.proofs.Places.{phase_from, leads_phase}
+use Rattle.legal_runs.proofs.Places.{phase_from, leads_phase}
 use Rattle.tty_port.specs.Inside.{Name, EntryWithCall}
 use Rattle.tty_port.specs.Histories.{call_by, history, history_in, name_in}
 use Rattle.tty_port.specs.Seen.{entries_in}

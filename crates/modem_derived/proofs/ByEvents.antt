@@ -17,7 +17,7 @@ use Rattle.modem_one.specs.Played.{answered_by, all_passed, by_blocks}
 use Rattle.modem_one.specs.Played.{IsModemPlayedOn}
 use Rattle.passed_ports.proofs.Started.{nothing_begun}
 use Rattle.passed_ports.proofs.Joining.{past_passings}
-use Rattle.passed_laws.specs.Sessions.{journal_on, begun_calls}
+use Rattle.order_laws.specs.Sessions.{journal_on, begun_calls}
 
 abbrev pub begun_by_events : ModemSession → (p : ℕ) → List ModemEvent → List PlainEntry → List Passing
 begun_by_events session p es journal =

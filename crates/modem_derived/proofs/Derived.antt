@@ -28,8 +28,8 @@ use Rattle.modem_derived.specs.Blocks.{AreCarriers, nothing_passed}
 use Rattle.modem_derived.specs.Walked.{Walked, first_walk, walked_by, walked_over, all_down, down_on}
 use Rattle.modem_derived.proofs.Carried.{all_steps, blocks_are, base_names, call_is}
 use Rattle.modem_derived.proofs.ByEvents.{no_passings}
-use Rattle.passed_laws.specs.Sessions.{journal_on}
-use Rattle.passed_laws.proofs.Answering.{stepped, set_length, answers_more}
+use Rattle.order_laws.specs.Sessions.{journal_on}
+use Rattle.order_laws.proofs.Answering.{stepped, set_length, answers_more}
 use Rattle.passed_ports.proofs.Started.{zeros_at, zeros_long}
 
 -- ---- what was logged of a port

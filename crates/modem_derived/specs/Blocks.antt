@@ -10,7 +10,7 @@ use Rattle.modem_text.specs.declared.sessions.ModemPart.{ModemPart}
 use Rattle.modem_text.specs.declared.sessions.PinItem.{PinItem}
 use Rattle.modem_text.specs.Sessions.{ModemSession, carrier_block}
 use Rattle.modem_one.specs.Played.{by_blocks}
-use Rattle.passed_laws.specs.Sessions.{played_session}
+use Rattle.order_laws.specs.Sessions.{played_session}
 
 -- nothing was passed down
 abbrev pub nothing_passed : ModemSession → PlainSession

@@ -8,7 +8,7 @@ use Rattle.derived_session.specs.declared.passed.Down.TheVariants as down
 use Rattle.derived_session.specs.Begun.{begun_down, one_more, after_all}
 use Rattle.modem_text.specs.Events.{ModemEvent, pin_set, own, passed, carrier_lost, ModemLog, events_on}
 use Rattle.modem_text.specs.Sessions.{carrier_name}
-use Rattle.passed_laws.specs.Sessions.{journal_on}
+use Rattle.order_laws.specs.Sessions.{journal_on}
 
 -- what was passed down so far, how many calls of each caller were answered, and how many items of the modem blocks were
 -- done; and the number of `carrier`

@@ -8,7 +8,7 @@ ghost use Rattle.modem_text.specs.Sessions.{modem_session_of};
 ghost use Rattle.modem_text.specs.Within.{IsModemSessionWithin};
 ghost use Rattle.modem_one.specs.Played.{derived_with, all_passed};
 ghost use Rattle.modem_derived.specs.Blocks.{nothing_passed, own_of};
-ghost use Rattle.passed_laws.specs.Sessions.{journal_on};
+ghost use Rattle.order_laws.specs.Sessions.{journal_on};
 
 use crate::carriers::carriers_of;
 use crate::passing::passed_in;

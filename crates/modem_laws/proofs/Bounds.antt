@@ -3,7 +3,7 @@ use Rattle.std.proofs.Common.{◌≤◌, ℕ, ◌+◌, ◌-◌, List, [], ◌∷
 use Rattle.tty_calls.specs.Plain.{hangs_up}
 use Rattle.passed_calls.specs.Derived.{by_caller, all_calls}
 use Rattle.passed_calls.specs.Scripts.{plain, further}
-use Rattle.passed_laws.proofs.Fewer.{by_one}
+use Rattle.order_laws.proofs.Fewer.{by_one}
 use Rattle.modem_text.specs.Events.{ModemEvent, pin_set, own, passed, carrier_lost, ModemLog}
 use Rattle.modem_text.specs.Sessions.{ModemCall, ModemSession}
 use Rattle.modem_steps.specs.Derived.{carrier_on, modem_call_at, plain_call, passings_from}

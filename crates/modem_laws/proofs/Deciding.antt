@@ -16,13 +16,13 @@ use Rattle.tty_terminal.specs.Steps.{IsAllowed as IsEntryAllowed}
 use Rattle.tty_terminal.specs.Runs.{Leads as Run, is_of_call}
 use Rattle.tty_terminal.proofs.WaitLaws.{run_waits}
 use Rattle.legal_runs.specs.Legal.{flip_on}
-use Rattle.one_order.specs.Order.{Place, first_place as place_first, place_after, is_waiting}
-use Rattle.one_order.proofs.Places.{leads_place}
+use Rattle.legal_runs.specs.Order.{Place, first_place as place_first, place_after, is_waiting}
+use Rattle.legal_runs.proofs.Places.{leads_place}
 use Rattle.passed_calls.specs.Journals.{terminal_at}
 use Rattle.passed_calls.specs.Scripts.{plain, further}
-use Rattle.passed_laws.proofs.Comings.{caller_event, part_begun}
-use Rattle.passed_laws.proofs.Journeys.{answers_in, drop_one, one_for, to_here, allowed_at}
-use Rattle.passed_laws.proofs.Steps.{step_other}
+use Rattle.order_laws.proofs.Comings.{caller_event, part_begun}
+use Rattle.order_laws.proofs.Journeys.{answers_in, drop_one, one_for, to_here, allowed_at}
+use Rattle.order_laws.proofs.Steps.{step_other}
 use Rattle.logged_laws.proofs.Ahead.{Search, ahead as first_ahead}
 use Rattle.logged_laws.proofs.Entries.{stays_over, none_answered, is_answered, under_way, of_next as next_answered}
 use Rattle.logged_laws.proofs.Places.{IsPast, Here, logged_for, logged_in, few_behind, no_due}

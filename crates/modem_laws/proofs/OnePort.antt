@@ -4,11 +4,11 @@ use Rattle.tty_calls.specs.declared.journals.PortRun.{PortRun}
 use Rattle.tty_calls.specs.Plain.{PlainEntry}
 use Rattle.tty_calls.specs.Sessions.{PlainSession}
 use Rattle.tty_terminal.specs.Terminals.{Terminal}
-use Rattle.one_order.specs.Order.{first_place}
+use Rattle.legal_runs.specs.Order.{first_place}
 use Rattle.passed_calls.specs.Derived.{Passing, by_caller}
 use Rattle.passed_calls.specs.Logs.{logged_on}
-use Rattle.passed_laws.specs.Passed.{IsPassedBy}
-use Rattle.passed_laws.specs.Same.{IsSamePort}
+use Rattle.order_laws.specs.Passed.{IsPassedBy}
+use Rattle.order_laws.specs.Same.{IsSamePort}
 use Rattle.logged_laws.proofs.OnePort.{IsPlayedOut, whole_run, few_answered, ends_all, shape, one_port as same_port}
 use Rattle.modem_text.specs.Events.{ModemLog}
 use Rattle.modem_text.specs.Sessions.{ModemSession}

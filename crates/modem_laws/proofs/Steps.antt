@@ -5,7 +5,7 @@ use Rattle.std.specs.Prelude.{nat_le}
 use Rattle.std.proofs.lemmas.Option.{same_Some}
 use Rattle.tty_calls.specs.Plain.{PlainAnswer, done, PlainEntry}
 use Rattle.tty_calls.specs.Sessions.{PlainSession}
-use Rattle.passed_laws.specs.Sessions.{journal_in}
+use Rattle.order_laws.specs.Sessions.{journal_in}
 use Rattle.logged_laws.specs.Steps.{LogSteps, Leads as LogLeads, AreInTurn, state_before as log_before, IsLoggedAnswer}
 use Rattle.logged_laws.specs.Steps.{ComesAtOnce, IsNextAnswer, AreLogSteps}
 use Rattle.logged_laws.proofs.Places.{no_due}

@@ -12,14 +12,14 @@ use Rattle.tty_terminal.specs.Terminals.{Terminal, caller_at}
 use Rattle.tty_terminal.specs.Steps.{nothing_to_flush, is_wait}
 use Rattle.tty_terminal.specs.Calls.{outcome_of}
 use Rattle.tty_terminal.specs.Runs.{is_of_call}
-use Rattle.one_order.specs.Order.{Place, next_place, place_after, turn, due, is_waiting, must_wait}
+use Rattle.legal_runs.specs.Order.{Place, next_place, place_after, turn, due, is_waiting, must_wait}
 use Rattle.order_laws.specs.Growth.{HasShape}
 use Rattle.order_laws.proofs.Growing.{WaitAlike, turn_same}
 use Rattle.order_laws.proofs.NextEntry.{AreOrderly}
 use Rattle.order_laws.proofs.Shapes.{phases_same}
 use Rattle.order_laws.proofs.TheEntry.{is_fixed}
-use Rattle.passed_laws.proofs.Comings.{IsPartBy}
-use Rattle.passed_laws.proofs.Journeys.{answer_count}
+use Rattle.order_laws.proofs.Comings.{IsPartBy}
+use Rattle.order_laws.proofs.Journeys.{answer_count}
 use Rattle.passed_calls.specs.Scripts.{plain, further}
 use Rattle.modem_text.specs.Events.{ModemLog}
 use Rattle.modem_text.specs.Sessions.{ModemCall, ModemSession}

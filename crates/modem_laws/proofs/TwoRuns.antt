@@ -8,13 +8,13 @@ use Rattle.tty_calls.specs.declared.journals.Who.TheVariants.{Caller, Session}
 use Rattle.tty_calls.specs.Plain.{PlainCall, PlainAnswer, hung_up, PlainEntry}
 use Rattle.tty_calls.specs.Sessions.{PlainSession}
 use Rattle.tty_terminal.specs.Terminals.{Terminal, caller_at, has_begun, handle_at, live_count}
-use Rattle.one_order.specs.Order.{Place}
+use Rattle.legal_runs.specs.Order.{Place}
 use Rattle.order_laws.specs.Growth.{HasShape}
 use Rattle.modem_lines.specs.declared.pins.Pin.{Pin}
 use Rattle.modem_lines.specs.Lines.{with_pin, loses_carrier}
 use Rattle.passed_calls.specs.Journals.{terminal_at}
 use Rattle.passed_calls.specs.Scripts.{plain, further}
-use Rattle.passed_laws.proofs.Together.{terminal_of as one_terminal, there as both_there, waits as both_wait}
+use Rattle.order_laws.proofs.Together.{terminal_of as one_terminal, there as both_there, waits as both_wait}
 use Rattle.logged_laws.proofs.Places.{IsPast, Here, before_none as log_before_none}
 use Rattle.logged_laws.proofs.TwoLogs.{SameHead, Both, Settled, StandAt, AreOfCaller, LogsAlike}
 use Rattle.modem_text.specs.Events.{ModemEvent, pin_set, own, passed, carrier_lost, ModemLog}

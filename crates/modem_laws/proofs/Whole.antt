@@ -10,8 +10,8 @@ use Rattle.tty_calls.specs.Plain.{PlainEntry}
 use Rattle.tty_calls.specs.Sessions.{PlainSession}
 use Rattle.tty_terminal.specs.Terminals.{Terminal}
 use Rattle.legal_runs.specs.Legal.{first_step, steps_in}
-use Rattle.one_order.specs.Order.{first_place}
-use Rattle.passed_laws.proofs.Journeys.{answers_in}
+use Rattle.legal_runs.specs.Order.{first_place}
+use Rattle.order_laws.proofs.Journeys.{answers_in}
 use Rattle.logged_laws.proofs.Entries.{one_phase}
 use Rattle.logged_laws.proofs.TwoLogs.{WholeRun}
 use Rattle.modem_laws.proofs.Steps.{modem_log}

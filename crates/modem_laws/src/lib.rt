@@ -9,7 +9,7 @@ ghost use Rattle.modem_text.specs.Events.{ModemLog};
 ghost use Rattle.modem_text.specs.Sessions.{ModemSession};
 ghost use Rattle.modem_steps.specs.Steps.{IsModemRun};
 ghost use Rattle.modem_steps.specs.Rows.{port_of};
-ghost use Rattle.passed_laws.specs.Same.{IsSamePort};
+ghost use Rattle.order_laws.specs.Same.{IsSamePort};
 ghost use Rattle.modem_laws.specs.OneRun.{IsPlayedWhole};
 ghost use Rattle.modem_laws.specs.Rows.{asks_and_reads, asked_while_reading, reading_journal};
 ghost use Rattle.modem_laws.specs.Rows.{two_writes, one_unlogged, two_writes_journal};

@@ -7,7 +7,7 @@ use Rattle.std.proofs.lemmas.List.{length-map}
 use Rattle.tty_calls.specs.declared.journals.Who.TheVariants.{Caller, Flusher, Clock, Session}
 use Rattle.tty_terminal.specs.Terminals.{Terminal}
 use Rattle.tty_terminal.specs.Steps.{nothing_to_flush}
-use Rattle.one_order.specs.Order.{is_waiting}
+use Rattle.legal_runs.specs.Order.{is_waiting}
 use Rattle.one_thread.specs.Turns.{role_numbers}
 use Rattle.play_base.specs.declared.roles.Role.{Role}
 use Rattle.modem_steps.specs.Steps.{Port, ModemState, callers_in}

@@ -11,17 +11,17 @@ use Rattle.tty_calls.specs.declared.journals.Who.TheVariants.{Caller}
 use Rattle.tty_terminal.specs.Terminals.{Terminal, caller_at, handle_at, has_begun, live_count}
 use Rattle.tty_terminal.specs.Steps.{nothing_to_flush}
 use Rattle.port_core.specs.Ports.{PortValue, IsPort, call_in}
-use Rattle.one_order.specs.Order.{is_waiting}
+use Rattle.legal_runs.specs.Order.{is_waiting}
 use Rattle.play_base.specs.Roles.{Scene}
 use Rattle.one_thread.specs.Turns.{IsKeptCall}
 use Rattle.order_laws.specs.Agreed.{Agrees, IsLike}
 use Rattle.legal_runs.proofs.NameLemmas.{get_past}
 use Rattle.passed_calls.specs.Journals.{Journal, terminal_at, IsAnswerAt}
 use Rattle.passed_calls.specs.Scripts.{plain, further}
-use Rattle.passed_laws.specs.Begun.{begun_at}
-use Rattle.passed_laws.specs.Later.{IsLater, ComesBy, WasAnswered}
-use Rattle.passed_laws.specs.Witness.{scene_on}
-use Rattle.passed_laws.proofs.Laters.{later_before, terminal_now}
+use Rattle.order_laws.specs.Begun.{begun_at}
+use Rattle.order_laws.specs.Later.{IsLater, ComesBy, WasAnswered}
+use Rattle.order_laws.specs.Witness.{scene_on}
+use Rattle.order_laws.proofs.Laters.{later_before, terminal_now}
 use Rattle.modem_lines.specs.Lines.{Lines, with_pin, loses_carrier}
 use Rattle.modem_lines.specs.declared.pins.Pin.{Pin}
 use Rattle.modem_text.specs.declared.items.OwnCall.{OwnCall}

@@ -22,13 +22,13 @@ use Rattle.one_thread.proofs.AfterLine.{nothing_left}
 use Rattle.one_thread.proofs.Calling.{role_number}
 use Rattle.passed_calls.specs.Derived.{Passing, AreInSteps, by_caller}
 use Rattle.passed_calls.specs.Scripts.{plain, further}
-use Rattle.passed_laws.specs.Begun.{begun_at, WereOver}
-use Rattle.passed_laws.specs.Passed.{begin_of}
-use Rattle.passed_laws.specs.Witness.{scene_on}
-use Rattle.passed_laws.proofs.InOrders.{same_entry}
-use Rattle.passed_laws.proofs.Overs.{over_other}
-use Rattle.passed_laws.proofs.Possible.{any_in_last}
-use Rattle.passed_laws.proofs.Steps.{tail, tail_one, step_other}
+use Rattle.order_laws.specs.Begun.{begun_at, WereOver}
+use Rattle.order_laws.specs.Passed.{begin_of}
+use Rattle.order_laws.specs.Witness.{scene_on}
+use Rattle.order_laws.proofs.InOrders.{same_entry}
+use Rattle.order_laws.proofs.Overs.{over_other}
+use Rattle.order_laws.proofs.Possible.{any_in_last}
+use Rattle.order_laws.proofs.Steps.{tail, tail_one, step_other}
 use Rattle.calls_left.specs.Remaining.{left_at, after_next, IsLeftTo}
 use Rattle.modem_lines.specs.Lines.{Lines}
 use Rattle.modem_text.specs.Sessions.{ModemCall, PinStep}

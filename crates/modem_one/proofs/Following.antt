@@ -4,14 +4,14 @@ use Rattle.std.proofs.Common.{ap, ◌∙◌, append-nil}
 use Rattle.tty_calls.specs.Plain.{hangs_up}
 use Rattle.passed_calls.specs.Derived.{Passing, by_caller}
 use Rattle.passed_calls.specs.Logs.{logged_on}
-use Rattle.passed_laws.proofs.Steps.{own_more, other_more}
+use Rattle.order_laws.proofs.Steps.{own_more, other_more}
 use Rattle.modem_text.specs.Events.{ModemEvent, pin_set, own, passed, carrier_lost, ModemLog, events_on}
 use Rattle.modem_text.specs.Sessions.{ModemCall, ModemSession}
 use Rattle.modem_steps.specs.Derived.{carrier_on, modem_call_at, plain_call, passings_from, passings_on}
 use Rattle.modem_steps.specs.Steps.{Port, ModemState, first_state, after_event, Leads}
 use Rattle.port_core.specs.Ports.{PortValue}
-use Rattle.passed_laws.specs.Later.{IsLater}
-use Rattle.passed_laws.proofs.Laters.{events_more}
+use Rattle.order_laws.specs.Later.{IsLater}
+use Rattle.order_laws.proofs.Laters.{events_more}
 use Rattle.modem_one.specs.Later.{HasLogged}
 use Rattle.modem_one.specs.Turns.{journal_of, port_now}
 

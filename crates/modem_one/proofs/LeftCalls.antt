@@ -13,10 +13,10 @@ use Rattle.one_thread.specs.declared.after_line.Stand.{Stand}
 use Rattle.one_thread.proofs.AfterLine.{all_known}
 use Rattle.one_thread.proofs.Calling.{role_number, same_place}
 use Rattle.passed_calls.specs.Derived.{Passing, AreInSteps}
-use Rattle.passed_laws.specs.Left.{HasGone, count_left}
-use Rattle.passed_laws.specs.Passed.{begin_of}
-use Rattle.passed_laws.specs.Witness.{scene_on}
-use Rattle.passed_laws.proofs.Steps.{step_own, step_other}
+use Rattle.order_laws.specs.Left.{HasGone, count_left}
+use Rattle.order_laws.specs.Passed.{begin_of}
+use Rattle.order_laws.specs.Witness.{scene_on}
+use Rattle.order_laws.proofs.Steps.{step_own, step_other}
 use Rattle.calls_left.specs.Remaining.{left_at, after_next, IsLeftTo}
 use Rattle.modem_text.specs.Sessions.{ModemCall, ModemSession, PinStep}
 use Rattle.modem_steps.specs.Derived.{block_phases, carrier_on, modem_call_at, call_in_phase}

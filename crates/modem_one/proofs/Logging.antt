@@ -5,8 +5,8 @@ use Rattle.port_core.specs.Ports.{PortValue}
 use Rattle.passed_calls.specs.declared.logs.Logged.{Logged}
 use Rattle.passed_calls.specs.Journals.{Journal}
 use Rattle.passed_calls.specs.Logs.{logged_on}
-use Rattle.passed_laws.specs.Later.{IsLater, ComesBy}
-use Rattle.passed_laws.proofs.Laters.{later_before, long_enough, on_more}
+use Rattle.order_laws.specs.Later.{IsLater, ComesBy}
+use Rattle.order_laws.proofs.Laters.{later_before, long_enough, on_more}
 use Rattle.modem_text.specs.Events.{ModemEvent, ModemLog}
 use Rattle.modem_text.specs.Sessions.{ModemSession}
 use Rattle.modem_steps.specs.Steps.{Port, ModemState, first_state, after_event, IsAllowed, Leads}

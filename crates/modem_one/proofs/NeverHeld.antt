@@ -16,7 +16,7 @@ use Rattle.tty_base.specs.declared.counters.Errno.TheVariants.{EEXIST, EBUSY}
 use Rattle.tty_terminal.specs.Outcomes.{Outcome, gives, refuses, does}
 use Rattle.tty_terminal.specs.Steps.{MustWait, TakesPart, IsAllowed}
 use Rattle.passed_calls.specs.Scripts.{plain}
-use Rattle.passed_laws.proofs.Attempted.{begins}
+use Rattle.order_laws.proofs.Attempted.{begins}
 use Rattle.modem_one.specs.Playing.{IsNeverHeld}
 
 -- a call that waits, or of which a part was taken

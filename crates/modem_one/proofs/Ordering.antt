@@ -6,16 +6,16 @@ use Rattle.std.proofs.lemmas.Bool.Decides.{nat_tests}
 use Rattle.tty_calls.specs.Plain.{PlainEntry}
 use Rattle.tty_calls.specs.Sessions.{PlainSession, call_at}
 use Rattle.port_core.specs.Ports.{PortValue}
-use Rattle.one_order.specs.Order.{Place, first_place, next_place, place_after, IsPieceOf}
+use Rattle.legal_runs.specs.Order.{Place, first_place, next_place, place_after, IsPieceOf}
 use Rattle.play_base.specs.Roles.{Scene}
 use Rattle.order_laws.specs.Agreed.{Agrees, IsLike}
 use Rattle.order_laws.proofs.Agreeing.{before_all}
 use Rattle.passed_calls.specs.declared.logs.Logged.{Logged}
 use Rattle.passed_calls.specs.Journals.{Journal}
 use Rattle.passed_calls.specs.Logs.{logged_on}
-use Rattle.passed_laws.specs.Witness.{scene_on}
-use Rattle.passed_laws.specs.Later.{IsLater, ComesBy}
-use Rattle.passed_laws.proofs.Laters.{later_before, on_more, front}
+use Rattle.order_laws.specs.Witness.{scene_on}
+use Rattle.order_laws.specs.Later.{IsLater, ComesBy}
+use Rattle.order_laws.proofs.Laters.{later_before, on_more, front}
 use Rattle.modem_text.specs.Events.{ModemEvent, pin_set, own, passed, carrier_lost, ModemLog}
 use Rattle.modem_text.specs.Sessions.{ModemSession}
 use Rattle.modem_steps.specs.Steps.{Port, ModemState, first_state, after_event, Leads}

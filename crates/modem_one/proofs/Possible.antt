@@ -7,7 +7,7 @@ use Rattle.std.proofs.lemmas.List.{length-map}
 use Rattle.tty_calls.specs.declared.journals.Who.TheVariants.{Caller}
 use Rattle.tty_terminal.specs.Terminals.{caller_at}
 use Rattle.port_core.specs.Ports.{PortValue, call_in}
-use Rattle.one_order.specs.Order.{must_wait, is_waiting, can_go_on as port_goes_on}
+use Rattle.legal_runs.specs.Order.{must_wait, is_waiting, can_go_on as port_goes_on}
 use Rattle.one_thread.specs.Turns.{role_numbers, who_of, NoneIs, NothingGoesOn, IsFree, IsPossible}
 use Rattle.play_base.specs.declared.roles.Role.{Role}
 use Rattle.one_thread.specs.declared.after_line.Turn.TheVariants as turn

@@ -7,7 +7,7 @@ use Rattle.std.proofs.lemmas.Bool.{false≢true}
 use Rattle.tty_calls.specs.declared.journals.Who.TheVariants.{Caller, Flusher, Clock, Session}
 use Rattle.tty_terminal.specs.Terminals.{Terminal, caller_at}
 use Rattle.tty_terminal.specs.Steps.{nothing_to_flush}
-use Rattle.one_order.specs.Order.{must_wait, is_waiting, can_go_on as port_goes_on}
+use Rattle.legal_runs.specs.Order.{must_wait, is_waiting, can_go_on as port_goes_on}
 use Rattle.modem_steps.specs.Derived.{carrier_on}
 use Rattle.modem_steps.specs.Steps.{Port, ModemState, next_call, callers_in, waits_for_carrier, is_held_up}
 use Rattle.modem_steps.specs.Order.{Turn, goes_on, sets_pin, is_told, open_is_held}

@@ -15,9 +15,9 @@ use Rattle.tty_calls.specs.Sessions.{PlainScript, names_of}
 use Rattle.passed_calls.specs.Blocks.{Block, bare, blocks_on, names_on, steps_under}
 use Rattle.passed_calls.specs.Derived.{BlockPhase, blocks_of}
 use Rattle.passed_calls.specs.Scripts.{CallerScript, block_of, calls_named}
-use Rattle.passed_laws.specs.Passed.{steps_named, begin_of}
-use Rattle.passed_laws.proofs.Shares.{on_port, over, named, blocks_one, map_append, named_length, named_append}
-use Rattle.passed_laws.proofs.Shares.{take_map, AreCounted, begin_named, get_first}
+use Rattle.order_laws.specs.Passed.{steps_named, begin_of}
+use Rattle.order_laws.proofs.Shares.{on_port, over, named, blocks_one, map_append, named_length, named_append}
+use Rattle.order_laws.proofs.Shares.{take_map, AreCounted, begin_named, get_first}
 use Rattle.calls_left.specs.Remaining.{IsLeftTo}
 use Rattle.modem_text.specs.Sessions.{ModemCall, ModemPhase, ModemSession, PinStep, pins_on}
 use Rattle.modem_text.specs.Sessions.{carrier_name, carrier_block, phase_blocks, blocks_in}

@@ -22,7 +22,7 @@ use Rattle.tty_terminal.specs.Terminals.{Terminal, caller_at}
 use Rattle.tty_terminal.proofs.WaitLaws.{run_waits, run_parts}
 use Rattle.port_core.specs.Attempts.{PlainTried, done_by, took_part, must_wait}
 use Rattle.port_core.specs.Ports.{PortValue, IsPort, IsOpen, Denies, call_in}
-use Rattle.one_order.specs.Order.{is_waiting, must_wait as port_waits, can_go_on as port_goes_on}
+use Rattle.legal_runs.specs.Order.{is_waiting, must_wait as port_waits, can_go_on as port_goes_on}
 use Rattle.play_base.specs.Scenes.{HasAnyOrder}
 use Rattle.one_thread.specs.Turns.{role_numbers, who_of, IsFree, IsPossible, PlaysIn, PlaysOnIn, TakesTurn}
 use Rattle.one_thread.specs.Acts.{AddsEntry, InTurn, InCall, PlaysTurn, TriesCall, PlaysCall}
@@ -32,14 +32,14 @@ use Rattle.one_thread.specs.declared.after_line.Turn.{Turn}
 use Rattle.one_thread.specs.declared.after_line.Turn.TheVariants as turn
 use Rattle.one_thread.proofs.Calling.{role_number}
 use Rattle.passed_calls.specs.Scripts.{plain, further}
-use Rattle.passed_laws.specs.Begun.{begun_at, begun_with, WereOver}
-use Rattle.passed_laws.specs.Left.{HasGone}
-use Rattle.passed_laws.specs.Passed.{begin_of}
-use Rattle.passed_laws.specs.Witness.{scene_on, IsCallingIn}
-use Rattle.passed_laws.proofs.Overs.{over_other, over_call}
-use Rattle.passed_laws.proofs.Possible.{any_in_turn, any_in_call}
-use Rattle.passed_laws.proofs.Attempted.{makes_as, attempts_as, call_is}
-use Rattle.passed_laws.proofs.Steps.{step_other, step_rises}
+use Rattle.order_laws.specs.Begun.{begun_at, begun_with, WereOver}
+use Rattle.order_laws.specs.Left.{HasGone}
+use Rattle.order_laws.specs.Passed.{begin_of}
+use Rattle.order_laws.specs.Witness.{scene_on, IsCallingIn}
+use Rattle.order_laws.proofs.Overs.{over_other, over_call}
+use Rattle.order_laws.proofs.Possible.{any_in_turn, any_in_call}
+use Rattle.order_laws.proofs.Attempted.{makes_as, attempts_as, call_is}
+use Rattle.order_laws.proofs.Steps.{step_other, step_rises}
 use Rattle.modem_text.specs.Sessions.{ModemCall, PinStep}
 use Rattle.modem_text.specs.Events.{pin_set}
 use Rattle.modem_text.specs.declared.items.OwnCall.{OwnCall}
@@ -60,7 +60,7 @@ use Rattle.modem_one.specs.AfterLine.{IsHangingUp, Advances, TakesCall, TakesNoC
 use Rattle.modem_one.specs.AfterLine.{FillsTurns, StopsTurns}
 use Rattle.modem_one.proofs.Possible.{rest_case, may_flush, may_call, may_pass, may_end}
 use Rattle.modem_one.proofs.DeskEvents.{notes_own, notes_passed, notes_pin, notes_lost}
-use Rattle.passed_laws.proofs.Hangups.{is_done}
+use Rattle.order_laws.proofs.Hangups.{is_done}
 use Rattle.modem_one.proofs.Ranks.{CallReason, it_can, its_end, in_vain, reason_of, call_reason, same_turn_caller}
 use Rattle.modem_one.proofs.Turning.{Tries, turn_each, turn_goes_on, noted_goes_on, call_begins, call_continues}
 use Rattle.modem_one.proofs.Turning.{call_waits, call_answered, hangup_begins, hangup_goes_on}

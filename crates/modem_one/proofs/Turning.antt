@@ -19,7 +19,7 @@ use Rattle.passed_calls.specs.Scripts.{plain}
 use Rattle.passed_calls.specs.Within.{AreBlocksWithin}
 use Rattle.port_core.specs.Attempts.{PlainTried, done_by, took_part, must_wait, Attempts}
 use Rattle.port_core.specs.Ports.{PortValue, end_entry}
-use Rattle.one_order.specs.Order.{IsPieceOf}
+use Rattle.legal_runs.specs.Order.{IsPieceOf}
 use Rattle.play_base.specs.Roles.{Scene}
 use Rattle.play_base.specs.Scenes.{HasAnyOrder}
 use Rattle.one_thread.specs.Turns.{role_numbers, who_of, IsPossible, PlaysIn, PlaysOnIn, TakesTurn}
@@ -31,20 +31,20 @@ use Rattle.one_thread.specs.declared.after_line.Turn.TheVariants as turn
 use Rattle.one_thread.proofs.Entries.{place_is}
 use Rattle.order_laws.specs.Agreed.{Agrees, IsLike}
 use Rattle.order_laws.proofs.Agreeing.{before_all}
-use Rattle.passed_laws.specs.Passed.{begin_of, IsOfBlocks, PassesMore}
-use Rattle.passed_laws.specs.Witness.{scene_on, IsPlayingIn, IsCallingIn}
-use Rattle.passed_laws.specs.Later.{IsLater, ComesBy, WasAnswered}
-use Rattle.passed_laws.specs.Begun.{begun_at, begun_with}
-use Rattle.passed_laws.proofs.InOrders.{same_entry}
-use Rattle.passed_laws.proofs.Possible.{any_in_turn, any_turn_on, any_in_call, any_call_on, any_in_last}
-use Rattle.passed_laws.proofs.Possible.{any_last_on, turn_taken, call_taken, last_taken}
-use Rattle.passed_laws.proofs.BegunBefore.{begun_same, begun_still, begun_elsewhere, begun_by_none}
-use Rattle.passed_laws.proofs.Attempted.{makes_as, attempts_as, begins, other_is, who_is, step_is}
-use Rattle.passed_laws.proofs.Attempted.{begins_by_wait, begins_by_part, begun_now, was_answered, ended_now}
-use Rattle.passed_laws.proofs.Steps.{tail, tail_same, tail_none, tail_one, step_own, step_other}
-use Rattle.passed_laws.proofs.Steps.{before_more}
-use Rattle.passed_laws.proofs.Callings.{comes, kept_grows, begun_elsewhere_too, begun_here, and_then, passes_then}
-use Rattle.passed_laws.proofs.Callings.{rests_at, begun_then, plays_as, more_is_next, next_begins, next_continues}
+use Rattle.order_laws.specs.Passed.{begin_of, IsOfBlocks, PassesMore}
+use Rattle.order_laws.specs.Witness.{scene_on, IsPlayingIn, IsCallingIn}
+use Rattle.order_laws.specs.Later.{IsLater, ComesBy, WasAnswered}
+use Rattle.order_laws.specs.Begun.{begun_at, begun_with}
+use Rattle.order_laws.proofs.InOrders.{same_entry}
+use Rattle.order_laws.proofs.Possible.{any_in_turn, any_turn_on, any_in_call, any_call_on, any_in_last}
+use Rattle.order_laws.proofs.Possible.{any_last_on, turn_taken, call_taken, last_taken}
+use Rattle.order_laws.proofs.BegunBefore.{begun_same, begun_still, begun_elsewhere, begun_by_none}
+use Rattle.order_laws.proofs.Attempted.{makes_as, attempts_as, begins, other_is, who_is, step_is}
+use Rattle.order_laws.proofs.Attempted.{begins_by_wait, begins_by_part, begun_now, was_answered, ended_now}
+use Rattle.order_laws.proofs.Steps.{tail, tail_same, tail_none, tail_one, step_own, step_other}
+use Rattle.order_laws.proofs.Steps.{before_more}
+use Rattle.order_laws.proofs.Callings.{comes, kept_grows, begun_elsewhere_too, begun_here, and_then, passes_then}
+use Rattle.order_laws.proofs.Callings.{rests_at, begun_then, plays_as, more_is_next, next_begins, next_continues}
 use Rattle.modem_text.specs.Events.{ModemEvent, passed, carrier_lost, ModemLog}
 use Rattle.modem_text.specs.Sessions.{ModemCall, ModemSession}
 use Rattle.modem_steps.specs.Derived.{block_phases, carrier_on, modem_call_at, plain_call, passings_on}

@@ -14,7 +14,7 @@ use Rattle.tty_terminal.specs.Calls.{outcome_of}
 use Rattle.tty_terminal.specs.Steps.{nothing_to_flush, is_wait}
 use Rattle.tty_terminal.proofs.WaitLaws.{run_waits}
 use Rattle.port_core.specs.Ports.{PortValue, call_in}
-use Rattle.one_order.specs.Order.{must_wait, is_waiting, turn as whose_turn, turn_after, turn_after_event}
+use Rattle.legal_runs.specs.Order.{must_wait, is_waiting, turn as whose_turn, turn_after, turn_after_event}
 use Rattle.play_base.specs.Roles.{Scene}
 use Rattle.play_base.specs.Scenes.{HasAnyOrder}
 use Rattle.one_thread.specs.Turns.{role_numbers, turn_with, IsKeptCall, PlaysIn}
@@ -22,8 +22,8 @@ use Rattle.play_base.specs.declared.roles.Role.{Role}
 use Rattle.one_thread.specs.declared.after_line.Stand.{Stand}
 use Rattle.one_thread.proofs.Entries.{place_is}
 use Rattle.passed_calls.specs.Journals.{Journal}
-use Rattle.passed_laws.specs.Later.{IsLater}
-use Rattle.passed_laws.specs.Witness.{scene_on}
+use Rattle.order_laws.specs.Later.{IsLater}
+use Rattle.order_laws.specs.Witness.{scene_on}
 use Rattle.modem_text.specs.Sessions.{ModemCall, ModemSession}
 use Rattle.modem_lines.specs.Lines.{Lines}
 use Rattle.modem_steps.specs.Derived.{carrier_on}

@@ -17,11 +17,11 @@ use Rattle.play_base.specs.declared.roles.Role.{Role}
 use Rattle.one_thread.specs.declared.after_line.Stand.{Stand}
 use Rattle.passed_calls.specs.Blocks.{names_on}
 use Rattle.passed_calls.specs.Within.{AreBlocksWithin}
-use Rattle.passed_laws.specs.Passed.{begin_of, IsOfBlocks}
-use Rattle.passed_laws.specs.Begun.{WereOver}
-use Rattle.passed_laws.specs.Left.{HasGone}
+use Rattle.order_laws.specs.Passed.{begin_of, IsOfBlocks}
+use Rattle.order_laws.specs.Begun.{WereOver}
+use Rattle.order_laws.specs.Left.{HasGone}
 use Rattle.calls_left.specs.Remaining.{left_at}
-use Rattle.passed_laws.specs.Witness.{IsCallingIn}
+use Rattle.order_laws.specs.Witness.{IsCallingIn}
 use Rattle.modem_text.specs.Sessions.{ModemCall, PinStep, blocks_in}
 use Rattle.modem_text.specs.Within.{IsModemSessionWithin}
 use Rattle.modem_steps.specs.Derived.{block_phases, carrier_on, call_in_phase}

@@ -3,13 +3,13 @@ use Rattle.std.specs.Prelude.{◌≡◌, ◌≤◌, ℕ, List, [], ◌∷◌, le
 use Rattle.tty_calls.specs.Plain.{PlainEntry}
 use Rattle.tty_calls.specs.Sessions.{PlainSession}
 use Rattle.port_core.specs.Ports.{PortValue}
-use Rattle.one_order.specs.Order.{first_place}
+use Rattle.legal_runs.specs.Order.{first_place}
 use Rattle.play_base.specs.Roles.{Scene}
 use Rattle.order_laws.specs.Agreed.{Agrees, IsLike}
 use Rattle.passed_calls.specs.Journals.{Journal}
 use Rattle.passed_calls.specs.Logs.{logged_on}
-use Rattle.passed_laws.specs.Witness.{scene_on}
-use Rattle.passed_laws.specs.Later.{IsLater}
+use Rattle.order_laws.specs.Witness.{scene_on}
+use Rattle.order_laws.specs.Later.{IsLater}
 use Rattle.modem_text.specs.Events.{ModemLog}
 use Rattle.modem_text.specs.Sessions.{ModemSession}
 use Rattle.modem_steps.specs.Steps.{Port, ModemState, first_state, Leads}

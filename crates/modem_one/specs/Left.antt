@@ -4,8 +4,8 @@ use Rattle.tty_base.specs.Sizes.{MOST_ENTRIES, MOST_STEPS}
 use Rattle.port_core.specs.Ports.{PortValue}
 use Rattle.one_thread.specs.Turns.{IsAbsent}
 use Rattle.play_base.specs.declared.roles.Role.{Role}
-use Rattle.passed_laws.specs.Passed.{begin_of}
-use Rattle.passed_laws.specs.Left.{count_left}
+use Rattle.order_laws.specs.Passed.{begin_of}
+use Rattle.order_laws.specs.Left.{count_left}
 use Rattle.calls_left.specs.Remaining.{left_at, IsLeftTo}
 use Rattle.modem_text.specs.Sessions.{ModemCall, ModemSession, PinStep}
 use Rattle.modem_steps.specs.Derived.{block_phases, carrier_on, modem_call_at}

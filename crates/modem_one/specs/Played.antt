@@ -6,7 +6,7 @@ use Rattle.tty_calls.specs.declared.journals.PortRun.{PortRun}
 use Rattle.tty_calls.specs.Plain.{PlainEntry}
 use Rattle.tty_calls.specs.Sessions.{PlainSession}
 use Rattle.tty_terminal.specs.Standing.{Standing}
-use Rattle.one_order.specs.Order.{AllSeeAll}
+use Rattle.legal_runs.specs.Order.{AllSeeAll}
 use Rattle.play_base.specs.Played.{IsPlayedOn}
 use Rattle.passed_calls.specs.Blocks.{names_on}
 use Rattle.passed_calls.specs.Logs.{logged_on}
@@ -16,8 +16,8 @@ use Rattle.modem_text.specs.Sessions.{ModemSession, blocks_in}
 use Rattle.modem_steps.specs.Derived.{block_phases, calls_over, modem_call_at, plain_call, passings_on, derived}
 use Rattle.modem_steps.specs.Steps.{Port, ModemState, first_state, next_of, items_on, Leads, IsModemRun}
 use Rattle.modem_steps.specs.Order.{AreInModemTurn}
-use Rattle.passed_laws.specs.Sessions.{BlockSession, played_session, answer_count, begun_call, begun_calls, journal_in}
-use Rattle.passed_laws.specs.Sessions.{journal_on, AreNotFull}
+use Rattle.order_laws.specs.Sessions.{BlockSession, played_session, answer_count, begun_call, begun_calls, journal_in}
+use Rattle.order_laws.specs.Sessions.{journal_on, AreNotFull}
 use Rattle.tty_base.specs.Sizes.{MOST_ENTRIES}
 
 -- ---- the session that was played, also where a journal is full

@@ -11,8 +11,8 @@ use Rattle.play_base.specs.declared.roles.Role.{Role}
 use Rattle.one_thread.specs.declared.after_line.Stand.{Stand}
 use Rattle.passed_calls.specs.Derived.{Passing, by_caller}
 use Rattle.passed_calls.specs.Scripts.{plain}
-use Rattle.passed_laws.specs.Begun.{begun_at}
-use Rattle.passed_laws.specs.Witness.{IsPlayingIn}
+use Rattle.order_laws.specs.Begun.{begun_at}
+use Rattle.order_laws.specs.Witness.{IsPlayingIn}
 use Rattle.modem_lines.specs.Lines.{Lines}
 use Rattle.modem_text.specs.Events.{ModemLog}
 use Rattle.modem_text.specs.Sessions.{ModemCall, ModemSession}

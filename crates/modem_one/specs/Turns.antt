@@ -4,7 +4,7 @@ use Rattle.std.specs.Prelude.{Some, MatchOption, length, sum, slice_index}
 use Rattle.tty_calls.specs.declared.journals.Who.TheVariants.{Caller, Flusher, Clock, Session}
 use Rattle.tty_terminal.specs.Terminals.{Terminal, opening}
 use Rattle.port_core.specs.Ports.{PortValue, call_in}
-use Rattle.one_order.specs.Order.{is_waiting}
+use Rattle.legal_runs.specs.Order.{is_waiting}
 use Rattle.one_thread.specs.Turns.{role_numbers}
 use Rattle.play_base.specs.declared.roles.Role.{Role}
 use Rattle.passed_calls.specs.Journals.{Journal}

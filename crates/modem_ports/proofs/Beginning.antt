@@ -25,7 +25,7 @@ use Rattle.passed_calls.specs.Derived.{Passing, Passed, BlockPhase, blocks_of, p
 use Rattle.passed_calls.specs.Scripts.{CallerScript, mixed_scripts, phases_with}
 use Rattle.passed_calls.specs.Within.{ArePassedWithin}
 use Rattle.passed_calls.proofs.Limits.{within_limits}
-use Rattle.passed_laws.specs.Filled.{AreNextSteps}
+use Rattle.order_laws.specs.Filled.{AreNextSteps}
 use Rattle.calls_left.specs.Remaining.{calls_of_port}
 use Rattle.modem_text.specs.declared.sessions.ModemPart.{ModemPart}
 use Rattle.modem_text.specs.declared.sessions.ModemSession.{ModemSession as KeptSession}

@@ -26,9 +26,9 @@ use Rattle.passed_calls.specs.Derived.{Passed, BlockPhase}
 use Rattle.passed_calls.specs.Scripts.{CallerScript, block_of, numbered_call}
 use Rattle.passed_calls.specs.Within.{IsBlockPhaseWithin}
 use Rattle.passed_calls.proofs.Names.{names_stay}
-use Rattle.passed_laws.specs.Passed.{IsPassedBy, IsOfBlocks, begin_of}
-use Rattle.passed_laws.proofs.Blocks.{of_blocks}
-use Rattle.passed_laws.proofs.Shares.{on_port, over, map_append, none_named, Own}
+use Rattle.order_laws.specs.Passed.{IsPassedBy, IsOfBlocks, begin_of}
+use Rattle.order_laws.proofs.Blocks.{of_blocks}
+use Rattle.order_laws.proofs.Shares.{on_port, over, map_append, none_named, Own}
 use Rattle.passed_ports.specs.Ports.{IsSceneOf}
 use Rattle.passed_ports.proofs.Leaving.{HasShares, AreSharesLeft, shares_left, get_map, some_at, some_is}
 use Rattle.passed_ports.proofs.Leaving.{names_one, names_plain, own_blocks, at_of}

@@ -6,8 +6,8 @@ use Rattle.play_base.specs.Roles.{Scene}
 use Rattle.passed_calls.specs.Blocks.{names_on}
 use Rattle.passed_calls.specs.Derived.{by_caller}
 use Rattle.passed_calls.specs.Logs.{logged_on}
-use Rattle.passed_laws.specs.Begun.{begun_at}
-use Rattle.passed_laws.proofs.Answering.{one_or_none, stepped, set_length, answers_more}
+use Rattle.order_laws.specs.Begun.{begun_at}
+use Rattle.order_laws.proofs.Answering.{one_or_none, stepped, set_length, answers_more}
 use Rattle.passed_ports.proofs.Started.{zeros_at, zeros_long, now_of, is_now, begun_last}
 use Rattle.modem_text.specs.Events.{ModemEvent, pin_set, own, passed, carrier_lost, ModemLog, events_on}
 use Rattle.modem_text.specs.Sessions.{ModemSession, blocks_in}

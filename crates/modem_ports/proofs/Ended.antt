@@ -7,7 +7,7 @@ use Rattle.play_base.specs.Roles.{Scene, scene_of}
 use Rattle.play_base.specs.Scenes.{HasAnyOrder}
 use Rattle.play_base.proofs.PortLemmas.{phases_over}
 use Rattle.order_laws.proofs.Shapes.{phases_same}
-use Rattle.passed_laws.specs.Witness.{scene_on}
+use Rattle.order_laws.specs.Witness.{scene_on}
 use Rattle.passed_ports.specs.Ports.{IsSceneOf}
 use Rattle.modem_text.specs.Sessions.{ModemSession}
 use Rattle.modem_text.specs.Within.{IsModemSessionWithin}

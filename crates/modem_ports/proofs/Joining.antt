@@ -5,7 +5,7 @@ use Rattle.std.proofs.Common.{refl, ap, ◌∙◌, subst, append-nil}
 use Rattle.tty_calls.specs.declared.answers.PortEnd.{PortEnd}
 use Rattle.tty_calls.specs.declared.journals.PortRun.{PortRun}
 use Rattle.tty_calls.specs.Sessions.{PlainSession}
-use Rattle.one_order.specs.Order.{first_place}
+use Rattle.legal_runs.specs.Order.{first_place}
 use Rattle.passed_calls.specs.Derived.{Passing, passed_phases}
 use Rattle.passed_calls.specs.Logs.{logged_on}
 use Rattle.passed_calls.specs.Within.{ArePassedWithin}
@@ -19,7 +19,7 @@ use Rattle.modem_one.specs.Played.{begun_in, derived_with, port_in, all_passed, 
 use Rattle.modem_one.specs.Played.{IsModemPlayedOn, AreModemsPlayed}
 use Rattle.passed_ports.proofs.Joining.{passed_within, each_whole, each_played}
 use Rattle.modem_ports.specs.Ports.{AreFirstPlayed}
-use Rattle.passed_laws.specs.Sessions.{journal_on}
+use Rattle.order_laws.specs.Sessions.{journal_on}
 use Rattle.modem_derived.proofs.ByEvents.{begun_by_events, passed_by_events, Was, none_begun}
 
 -- ---- the same with a log that has the same of the port

@@ -13,14 +13,14 @@ use Rattle.tty_terminal.specs.Runs.{Leads}
 use Rattle.tty_terminal.proofs.MarkLaws.{step_marks, leads_marks}
 use Rattle.legal_runs.specs.Legal.{line_ends, line_ends_in, session_events, session_events_in}
 use Rattle.port_core.specs.Ports.{PortValue}
-use Rattle.one_order.specs.Order.{Place, first_place, next_place, place_after, turn, AreInTurn}
+use Rattle.legal_runs.specs.Order.{Place, first_place, next_place, place_after, turn, AreInTurn}
 use Rattle.play_base.specs.Roles.{Scene}
 use Rattle.order_laws.specs.Agreed.{Agrees, IsLike}
 use Rattle.order_laws.proofs.Agreeing.{before_all}
 use Rattle.passed_calls.specs.Logs.{logged_on}
-use Rattle.passed_laws.specs.Witness.{scene_on}
-use Rattle.passed_laws.specs.Later.{ComesBy}
-use Rattle.passed_laws.proofs.Laters.{later_before}
+use Rattle.order_laws.specs.Witness.{scene_on}
+use Rattle.order_laws.specs.Later.{ComesBy}
+use Rattle.order_laws.proofs.Laters.{later_before}
 use Rattle.modem_text.specs.Events.{ModemLog}
 use Rattle.modem_text.specs.Sessions.{ModemSession}
 use Rattle.modem_steps.specs.Steps.{Port}

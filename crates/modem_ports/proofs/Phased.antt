@@ -19,7 +19,7 @@ use Rattle.tty_terminal.specs.Runs.{Leads}
 use Rattle.legal_runs.specs.Legal.{phase_at}
 use Rattle.port_core.specs.Ports.{PortValue, IsPort}
 use Rattle.one_thread.specs.Acts.{BeginsLine, PlaysItsLine}
-use Rattle.one_order.specs.Order.{AreInTurn, IsPieceOf, Place}
+use Rattle.legal_runs.specs.Order.{AreInTurn, IsPieceOf, Place}
 use Rattle.play_base.specs.Roles.{Scene, names_in}
 use Rattle.play_base.specs.Beginning.{IsAtPhaseIn}
 use Rattle.one_thread.specs.Lines.{PlaysLineIn}
@@ -35,14 +35,14 @@ use Rattle.order_laws.proofs.Agreeing.{before_all}
 use Rattle.order_laws.proofs.InEach.{same_calls, any_phase_each}
 use Rattle.order_laws.proofs.Shapes.{phases_same, at_phase}
 use Rattle.passed_calls.specs.Derived.{Passing, AreInSteps, by_caller}
-use Rattle.passed_laws.specs.Passed.{begin_of}
-use Rattle.passed_laws.specs.Witness.{scene_on, HasPassed, IsPlayingIn}
-use Rattle.passed_laws.specs.Filled.{scripts_in}
-use Rattle.passed_laws.specs.Begun.{begun_at}
-use Rattle.passed_laws.specs.Later.{ComesBy}
-use Rattle.passed_laws.proofs.Adding.{blocks_same}
-use Rattle.passed_laws.proofs.Casts.{roles_each}
-use Rattle.passed_laws.proofs.Possible.{any_begins_line, any_begins_playing, any_end_on}
+use Rattle.order_laws.specs.Passed.{begin_of}
+use Rattle.order_laws.specs.Witness.{scene_on, HasPassed, IsPlayingIn}
+use Rattle.order_laws.specs.Filled.{scripts_in}
+use Rattle.order_laws.specs.Begun.{begun_at}
+use Rattle.order_laws.specs.Later.{ComesBy}
+use Rattle.order_laws.proofs.PassedAdding.{blocks_same}
+use Rattle.order_laws.proofs.Casts.{roles_each}
+use Rattle.order_laws.proofs.Possible.{any_begins_line, any_begins_playing, any_end_on}
 use Rattle.modem_text.specs.Sessions.{ModemCall, ModemSession, PinStep}
 use Rattle.modem_steps.specs.Derived.{block_phases, carrier_on, passings_on}
 use Rattle.modem_one.specs.declared.turns.Next.TheVariants as next

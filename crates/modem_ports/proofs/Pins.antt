@@ -6,8 +6,8 @@ use Rattle.std.specs.List.{range_with_len}
 use Rattle.std.proofs.lemmas.Bool.{ne_eqb}
 use Rattle.std.proofs.lemmas.List.{length-map}
 use Rattle.tty_base.specs.Sizes.{MOST_STEPS}
-use Rattle.passed_laws.specs.Passed.{begin_of}
-use Rattle.passed_laws.proofs.Shares.{get_first, get_later, take_more, map_append}
+use Rattle.order_laws.specs.Passed.{begin_of}
+use Rattle.order_laws.proofs.Shares.{get_first, get_later, take_more, map_append}
 use Rattle.passed_calls.specs.Blocks.{names_on}
 use Rattle.passed_calls.specs.Derived.{blocks_of}
 use Rattle.passed_calls.specs.Within.{call_count}

@@ -21,7 +21,7 @@ use Rattle.play_base.specs.Beginning.{IsAtPhaseIn}
 use Rattle.play_base.specs.Phases.{EndsRun, HavePlayedInOrder, IsPortOf, IsFullRun, IsAtEnd}
 use Rattle.play_base.specs.Leaving.{EndsJournal}
 use Rattle.tty_base.specs.declared.lines.Overrun.{Overrun}
-use Rattle.one_order.specs.Order.{AllSeeAll, AreInTurn, Place, turn}
+use Rattle.legal_runs.specs.Order.{AllSeeAll, AreInTurn, Place, turn}
 use Rattle.play_base.specs.Played.{IsPlayedOn}
 use Rattle.play_base.specs.Scenes.{HasAnyOrder, IsOfSceneIn, place_of}
 use Rattle.play_base.proofs.PortLemmas.{port_of_scene, at_end_of}
@@ -29,8 +29,8 @@ use Rattle.order_laws.proofs.Shapes.{phases_same}
 use Rattle.passed_calls.specs.Blocks.{names_on}
 use Rattle.passed_calls.specs.Derived.{Passing, by_caller}
 use Rattle.passed_calls.specs.Logs.{logged_on}
-use Rattle.passed_laws.specs.Witness.{scene_on}
-use Rattle.passed_laws.specs.Sessions.{journal_in}
+use Rattle.order_laws.specs.Witness.{scene_on}
+use Rattle.order_laws.specs.Sessions.{journal_in}
 use Rattle.passed_ports.specs.Ports.{IsSceneOf}
 use Rattle.passed_ports.proofs.Played.{like_played, agrees_played, idle_then, later_then, is_later, phases_many}
 use Rattle.passed_ports.proofs.Started.{within_of}

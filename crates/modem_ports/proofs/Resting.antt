@@ -11,9 +11,9 @@ use Rattle.tty_calls.specs.Sessions.{PlainSession, call_at}
 use Rattle.tty_terminal.specs.Standing.{Standing, standing_in, standing_after, standing_after_own, standing_after_other}
 use Rattle.tty_terminal.specs.Standing.{at_first}
 use Rattle.tty_terminal.proofs.StandingLaws.{run_stands}
-use Rattle.one_order.specs.Order.{Place, AreInTurn, due, next_place}
+use Rattle.legal_runs.specs.Order.{Place, AreInTurn, due, next_place}
 use Rattle.port_core.specs.Ports.{PortValue, IsPort, call_in}
-use Rattle.passed_laws.specs.Begun.{begun_at}
+use Rattle.order_laws.specs.Begun.{begun_at}
 use Rattle.modem_ports.proofs.Lines.{AreBeforeEnd}
 
 -- none of these entries is of this caller

@@ -7,7 +7,7 @@ use Rattle.tty_calls.specs.declared.sessions.Session.{Session}
 use Rattle.tty_calls.specs.Plain.{PlainEntry}
 use Rattle.tty_calls.specs.Sessions.{PlainSession, session_of}
 use Rattle.port_core.specs.Ports.{PortValue, IsPort}
-use Rattle.one_order.specs.Order.{first_place}
+use Rattle.legal_runs.specs.Order.{first_place}
 use Rattle.play_base.specs.Phases.{IsUpTo, IsBeforePhase}
 use Rattle.play_base.specs.Roles.{Scene, scene_of, names_in}
 use Rattle.play_base.specs.declared.stations.Station.{Station}
@@ -15,8 +15,8 @@ use Rattle.order_laws.proofs.InEach.{any_before_each}
 use Rattle.order_laws.proofs.Opening.{opened_each}
 use Rattle.passed_calls.specs.Blocks.{names_on}
 use Rattle.passed_calls.specs.Derived.{Passing, BlockPhase, blocks_of}
-use Rattle.passed_laws.specs.Passed.{begin_of, steps_named}
-use Rattle.passed_laws.proofs.Opens.{opens_with_none, nothing_before}
+use Rattle.order_laws.specs.Passed.{begin_of, steps_named}
+use Rattle.order_laws.proofs.Opens.{opens_with_none, nothing_before}
 use Rattle.passed_ports.proofs.Started.{zeros_at, zeros_long}
 use Rattle.modem_lines.specs.Lines.{first_lines}
 use Rattle.modem_text.specs.declared.sessions.ModemSession.{ModemSession as KeptSession}

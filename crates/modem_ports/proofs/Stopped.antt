@@ -14,7 +14,7 @@ use Rattle.tty_terminal.specs.Runs.{Leads}
 use Rattle.legal_runs.specs.Legal.{phase_at}
 use Rattle.port_core.specs.Ports.{PortValue, IsPort}
 use Rattle.one_thread.specs.Acts.{PlaysItsLine, StopsItsLine, PlayingIn}
-use Rattle.one_order.specs.Order.{AreInTurn}
+use Rattle.legal_runs.specs.Order.{AreInTurn}
 use Rattle.one_thread.specs.Lines.{PlaysLineIn, StopsInLineIn}
 use Rattle.play_base.specs.Scenes.{HasAnyOrder, place_of}
 use Rattle.play_base.specs.declared.roles.Role.{Role}
@@ -25,9 +25,9 @@ use Rattle.order_laws.proofs.Shapes.{at_phase}
 use Rattle.modem_ports.proofs.Stopping.{full_in_line, full_behind_line}
 use Rattle.passed_calls.specs.Blocks.{names_on}
 use Rattle.passed_calls.specs.Derived.{Passing, AreInSteps, by_caller}
-use Rattle.passed_laws.specs.Passed.{begin_of}
-use Rattle.passed_laws.specs.Witness.{scene_on}
-use Rattle.passed_laws.specs.Begun.{begun_at}
+use Rattle.order_laws.specs.Passed.{begin_of}
+use Rattle.order_laws.specs.Witness.{scene_on}
+use Rattle.order_laws.specs.Begun.{begun_at}
 use Rattle.modem_text.specs.Sessions.{ModemCall, PinStep, blocks_in}
 use Rattle.modem_text.specs.Events.{events_on}
 use Rattle.modem_steps.specs.Derived.{block_phases, passings_on}
@@ -47,7 +47,7 @@ use Rattle.passed_calls.specs.Derived.{blocks_of}
 use Rattle.passed_calls.specs.Logs.{logged_on}
 use Rattle.std.proofs.Common.{zero, suc, take}
 use Rattle.std.specs.Prelude.{slice_get}
-use Rattle.passed_laws.specs.Passed.{IsPassedBy, steps_named}
+use Rattle.order_laws.specs.Passed.{IsPassedBy, steps_named}
 use Rattle.passed_ports.proofs.Alike.{agrees_alike}
 use Rattle.modem_one.specs.Played.{port_in}
 use Rattle.modem_one.proofs.Shares.{names_same}

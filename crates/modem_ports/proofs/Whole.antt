@@ -14,8 +14,8 @@ use Rattle.passed_calls.specs.Blocks.{names_on}
 use Rattle.passed_calls.specs.Derived.{BlockPhase, blocks_of}
 use Rattle.passed_calls.specs.Journals.{terminal_at}
 use Rattle.passed_calls.specs.Scripts.{calls_named}
-use Rattle.passed_laws.specs.Passed.{begin_of, steps_named}
-use Rattle.passed_laws.proofs.Shares.{on_port, named, named_append}
+use Rattle.order_laws.specs.Passed.{begin_of, steps_named}
+use Rattle.order_laws.proofs.Shares.{on_port, named, named_append}
 use Rattle.passed_ports.proofs.Leaving.{below_if, some_at}
 use Rattle.passed_ports.proofs.Played.{take_all}
 use Rattle.modem_text.specs.Events.{ModemEvent, ModemLog, pin_set, own, passed, carrier_lost}

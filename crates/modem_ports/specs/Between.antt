@@ -15,7 +15,7 @@ use Rattle.play_base.specs.Casting.{HaveSameCallers, own_scripts, scripts_at, ca
 use Rattle.one_thread.specs.Turns.{role_numbers}
 use Rattle.play_base.specs.declared.roles.Role.{Role}
 use Rattle.passed_calls.specs.Blocks.{number_on}
-use Rattle.passed_laws.specs.Filled.{AreNextSteps}
+use Rattle.order_laws.specs.Filled.{AreNextSteps}
 use Rattle.passed_ports.specs.Ports.{IsSceneOf}
 use Rattle.modem_text.specs.Sessions.{ModemCall, ModemSession, PinStep, blocks_in, modem_session_of}
 use Rattle.modem_text.specs.declared.sessions.ModemSession.{ModemSession as KeptSession}

@@ -13,8 +13,8 @@ use Rattle.play_base.specs.Scenes.{HasAnyOrder, IsOfSceneIn}
 use Rattle.order_laws.specs.Agreed.{Agrees, IsLike, IsBeforeEachIn}
 use Rattle.passed_calls.specs.Blocks.{names_on}
 use Rattle.passed_calls.specs.Derived.{Passing, by_caller}
-use Rattle.passed_laws.specs.Passed.{IsPassedBy, AreBefore, begin_of}
-use Rattle.passed_laws.specs.Witness.{scene_on, HasPassed}
+use Rattle.order_laws.specs.Passed.{IsPassedBy, AreBefore, begin_of}
+use Rattle.order_laws.specs.Witness.{scene_on, HasPassed}
 use Rattle.passed_ports.specs.Ports.{IsPlayedSo, ArePlayedFirst}
 use Rattle.modem_text.specs.Events.{ModemLog}
 use Rattle.modem_text.specs.Sessions.{ModemSession, blocks_in}

@@ -20,7 +20,7 @@ ghost use Rattle.modem_text.specs.Within.{IsModemSessionWithin};
 ghost use Rattle.modem_one.specs.Desk.{DeskState};
 ghost use Rattle.modem_one.specs.Played.{derived_with, AreModemsPlayed, by_blocks, all_passed};
 ghost use Rattle.modem_ports.specs.Ports.{IsModemsEnd, IsModemsFull, IsPortPlayed, AreFirstPlayed};
-ghost use Rattle.passed_laws.specs.Sessions.{journal_on};
+ghost use Rattle.order_laws.specs.Sessions.{journal_on};
 
 /// A port whose phases were played is hung up, and then it was played: its log is whole.
 pub fn a_modem_port_hung_up_was_played()

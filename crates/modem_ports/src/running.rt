@@ -10,7 +10,7 @@ ghost use Rattle.modem_steps.specs.Derived.{passings_on};
 ghost use Rattle.modem_one.specs.Played.{AreModemsPlayed, begun_in};
 ghost use Rattle.modem_derived.specs.Blocks.{nothing_passed};
 ghost use Rattle.modem_ports.specs.Ports.{AreFirstPlayed};
-ghost use Rattle.passed_laws.specs.Sessions.{journal_on};
+ghost use Rattle.order_laws.specs.Sessions.{journal_on};
 
 use crate::ports::play_port;
 use modem_derived::{base_of, derive_session};

@@ -4,7 +4,7 @@ use Rattle.std.proofs.lemmas.Bool.{false≢true, and_parts}
 use Rattle.tty_calls.specs.Plain.{PlainEvent, answered, parted, waited, flushed, ticked, line_ended, clock_ended}
 use Rattle.tty_calls.specs.Plain.{caller_ended, phase_ended, hung_up, PlainEntry}
 use Rattle.tty_calls.specs.Sessions.{PlainSession, call_at}
-use Rattle.one_order.specs.Order.{Place, first_place, next_place, IsPieceOf}
+use Rattle.legal_runs.specs.Order.{Place, first_place, next_place, IsPieceOf}
 use Rattle.passed_calls.specs.Logs.{logged_on}
 use Rattle.modem_text.specs.Events.{ModemLog}
 use Rattle.modem_steps.specs.Derived.{derived}

@@ -9,8 +9,8 @@ use Rattle.tty_calls.specs.Plain.{clock_ended, caller_ended, phase_ended, hung_u
 use Rattle.tty_calls.specs.Sessions.{PlainSession, call_at}
 use Rattle.tty_terminal.specs.Terminals.{Terminal, caller_at}
 use Rattle.tty_terminal.specs.Steps.{nothing_to_flush}
-use Rattle.one_order.specs.Order.{must_wait, is_waiting, Place, turn, first_place, next_place, place_after, IsPieceOf}
-use Rattle.one_order.specs.Order.{AllSeeAll}
+use Rattle.legal_runs.specs.Order.{must_wait, is_waiting, Place, turn, first_place, next_place, place_after, IsPieceOf}
+use Rattle.legal_runs.specs.Order.{AllSeeAll}
 use Rattle.modem_lines.specs.Lines.{Lines}
 use Rattle.passed_calls.specs.Journals.{terminal_at}
 use Rattle.passed_calls.specs.Logs.{logged_on}

@@ -18,7 +18,7 @@ use Rattle.modem_text.specs.Events.{ModemEvent, pin_set, own, passed, carrier_lo
 use Rattle.modem_text.specs.Sessions.{ModemCall, PinStep, ModemPhase, ModemSession, carrier_name}
 use Rattle.modem_steps.specs.Derived.{derived}
 use Rattle.modem_steps.specs.Steps.{Port, ModemState, first_state, after_event}
-use Rattle.one_order.specs.Rows.{played_with}
+use Rattle.legal_runs.specs.Rows.{played_with}
 
 -- ---- sessions of one port, whose only caller is called a
 

@@ -10,7 +10,7 @@ use Rattle.handle_table.specs.declared.HandleState.{HandleState}
 use Rattle.handle_table.specs.Handles.{is_live}
 use Rattle.tty_terminal.specs.Terminals.{Terminal, handle_at, caller_at, has_begun, live_count}
 use Rattle.tty_terminal.specs.Steps.{nothing_to_flush}
-use Rattle.one_order.specs.Order.{must_wait, is_waiting}
+use Rattle.legal_runs.specs.Order.{must_wait, is_waiting}
 use Rattle.modem_lines.specs.declared.pins.Pin.{Pin}
 use Rattle.modem_lines.specs.Lines.{Lines, first_lines, with_pin, loses_carrier, may_open, after_open, after_shut}
 use Rattle.modem_lines.specs.Lines.{assigned, raised, lowered, modem_bits, status_register, after_status}

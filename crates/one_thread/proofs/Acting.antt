@@ -25,7 +25,7 @@ use Rattle.port_core.specs.Flips.{DropsShown}
 use Rattle.port_core.specs.Attempts.{PlainTried, done_by, took_part, must_wait}
 use Rattle.port_core.specs.Attempts.{AnswersCall, TakesPartOf, MustGoOnWaiting, Attempts}
 use Rattle.port_core.specs.Ports.{PlainKept, PortValue, kept_with, with_call, Appends, caller_entry, end_entry}
-use Rattle.one_order.specs.Order.{IsPieceOf, turn_after_event}
+use Rattle.legal_runs.specs.Order.{IsPieceOf, turn_after_event}
 use Rattle.play_base.specs.Roles.{Scene, calls_in, role_in, AreRolesOf}
 use Rattle.play_base.specs.Scenes.{place_of, HasAnyOrder}
 use Rattle.one_thread.specs.Turns.{role_numbers, turn_with, who_of, IsPossible, standing_at, standing_at_rest, IsInRole}

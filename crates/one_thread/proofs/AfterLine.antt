@@ -29,7 +29,7 @@ use Rattle.legal_runs.specs.Phases.{HasPlayed}
 use Rattle.port_core.specs.Flips.{after_meeting}
 use Rattle.port_core.specs.Phases.{EndsPhase}
 use Rattle.port_core.specs.Ports.{PortValue, IsPort, call_in, Denies, phase_entry}
-use Rattle.one_order.specs.Order.{first_place, AreInTurn, IsInTurn, is_waiting, must_wait, is_of_consoles}
+use Rattle.legal_runs.specs.Order.{first_place, AreInTurn, IsInTurn, is_waiting, must_wait, is_of_consoles}
 use Rattle.play_base.specs.Roles.{Scene, calls_in, role_in, AreRolesOf}
 use Rattle.play_base.specs.Scenes.{place_of, HasAnyOrder, HasOneOrder, IsOfSceneIn, AreAtFirst, BeginsRun}
 use Rattle.one_thread.specs.Stages.{IsAfterLineIn, EndsAfterLineIn, StopsAfterLine}
@@ -40,7 +40,7 @@ use Rattle.one_thread.specs.Turns.{HasCallers, next_run, HasRuns, PlaysIn, Plays
 use Rattle.play_base.specs.declared.roles.Role.{Role}
 use Rattle.one_thread.specs.declared.after_line.Stand.{Stand}
 use Rattle.one_thread.specs.declared.after_line.Turn.TheVariants as turn
-use Rattle.one_order.proofs.Places.{turns_more}
+use Rattle.legal_runs.proofs.Places.{turns_more}
 use Rattle.one_thread.proofs.Possible.{end_view, by_rank}
 use Rattle.one_thread.proofs.Entries.{more_of, IsRunOf, scene_more, by_turn, numbers_same}
 use Rattle.play_base.proofs.OrderLemmas.{scene_in}

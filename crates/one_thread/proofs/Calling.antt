@@ -17,7 +17,7 @@ use Rattle.tty_terminal.specs.Steps.{callers_in, quiet, nothing_to_flush, is_wai
 use Rattle.tty_terminal.proofs.Effects.{outcome_keeps}
 use Rattle.tty_terminal.proofs.WaitLaws.{run_waits, run_parts}
 use Rattle.port_core.specs.Ports.{PortValue, call_in}
-use Rattle.one_order.specs.Order.{can_go_on, is_waiting, must_wait}
+use Rattle.legal_runs.specs.Order.{can_go_on, is_waiting, must_wait}
 use Rattle.play_base.specs.Roles.{Scene, calls_in, role_in, IsRoleOf, AreRolesOf}
 use Rattle.one_thread.specs.Turns.{role_numbers, NothingGoesOn, IsPossible, standing_at, IsInParts, IsGoing, PlaysIn}
 use Rattle.play_base.specs.declared.roles.Role.{Role}

@@ -19,8 +19,8 @@ use Rattle.tty_terminal.proofs.Runs.{leads_more}
 use Rattle.tty_terminal.proofs.WaitLaws.{run_waits}
 use Rattle.legal_runs.specs.Legal.{IsInPhase, AreInPhases, session_events, flip_on}
 use Rattle.port_core.specs.Ports.{PlainKept, PortValue, call_in, Appends}
-use Rattle.one_order.specs.Order.{Place, first_place, IsPieceOf, turn, turn_after, turn_after_event, turn_by_rank}
-use Rattle.one_order.specs.Order.{callers_of, first_of, can_go_on, is_waiting, must_wait, is_of_consoles}
+use Rattle.legal_runs.specs.Order.{Place, first_place, IsPieceOf, turn, turn_after, turn_after_event, turn_by_rank}
+use Rattle.legal_runs.specs.Order.{callers_of, first_of, can_go_on, is_waiting, must_wait, is_of_consoles}
 use Rattle.play_base.specs.Roles.{Scene, numbers_in, role_in}
 use Rattle.play_base.specs.Scenes.{place_of, HasAnyOrder, IsOfSceneIn}
 use Rattle.one_thread.specs.Turns.{role_numbers, turn_with, who_of, IsKeptCall, HasCallers, HasRuns, PlaysIn, TakesTurn}
@@ -28,7 +28,7 @@ use Rattle.play_base.specs.declared.roles.Role.{Role}
 use Rattle.one_thread.specs.declared.after_line.Stand.{Stand}
 use Rattle.one_thread.specs.declared.after_line.Turn.{Turn}
 use Rattle.one_thread.proofs.Ranks.{first_same}
-use Rattle.one_order.proofs.Places.{place_more, in_phases_more, leads_place, leads_phase}
+use Rattle.legal_runs.proofs.Places.{place_more, in_phases_more, leads_place, leads_phase}
 
 -- an entry more, of the session's calls
 pub record IsMore (s : Scene) (v w : PortValue) (e : PlainEntry) : Type 0 where

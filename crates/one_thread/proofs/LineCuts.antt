@@ -24,7 +24,7 @@ use Rattle.port_core.specs.declared.ports.flushing.Flushed.TheVariants.{Took, No
 use Rattle.port_core.specs.Flips.{MeetsTaker, after_meeting, shown_count}
 use Rattle.port_core.specs.Flushes.{Flushes, Takes, TakesNone, LooksAtNone}
 use Rattle.port_core.specs.Ports.{PortValue, IsPort, is_stuck, flush_entry}
-use Rattle.one_order.specs.Order.{cuts_in, cuts_after, due, front_to_flush, IsInTurn}
+use Rattle.legal_runs.specs.Order.{cuts_in, cuts_after, due, front_to_flush, IsInTurn}
 use Rattle.play_base.specs.Scenes.{BeginsRun, place_of}
 use Rattle.one_thread.specs.LineInside.{LineStart, steps_before, steps_of, IsInLine, HasFlushedAll, IsBetweenSteps}
 use Rattle.one_thread.specs.LineInside.{run_after, with_all_pushed, FlushesCut}

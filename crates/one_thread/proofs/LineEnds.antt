@@ -31,8 +31,8 @@ use Rattle.legal_runs.specs.Legal.{phase_at, first_step, script_of_first, receiv
 use Rattle.port_core.specs.Flips.{MeetsTaker, after_meeting}
 use Rattle.port_core.specs.Phases.{EndsLine}
 use Rattle.port_core.specs.Ports.{PortValue, IsPort, Denies, call_in, is_stuck, phase_entry}
-use Rattle.one_order.specs.Order.{Place, cuts_in, cuts_after, due, front_to_flush, turn_after, is_after_flush, IsInTurn}
-use Rattle.one_order.specs.Order.{first_place}
+use Rattle.legal_runs.specs.Order.{Place, cuts_in, cuts_after, due, front_to_flush, turn_after, is_after_flush, IsInTurn}
+use Rattle.legal_runs.specs.Order.{first_place}
 use Rattle.play_base.specs.Roles.{Scene}
 use Rattle.play_base.specs.Scenes.{HasAnyOrder, IsOfSceneIn, BeginsRun, RunsBelow, caller_at_rest, place_of}
 use Rattle.one_thread.specs.Stages.{IsAfterLineIn}
@@ -44,7 +44,7 @@ use Rattle.one_thread.specs.LineInside.{DeniesCut, LineAt, line_at, IsLineBetwee
 use Rattle.one_thread.specs.LineInside.{StandsBefore}
 use Rattle.one_thread.proofs.LineLists.{no_cut_left}
 use Rattle.play_base.proofs.Refusals.{All_later, overruns_see_most}
-use Rattle.one_order.proofs.Places.{in_phases_more, place_more, turns_more}
+use Rattle.legal_runs.proofs.Places.{in_phases_more, place_more, turns_more}
 use Rattle.one_thread.proofs.AfterLine.{run_of_port}
 use Rattle.one_thread.proofs.Entries.{place_is}
 use Rattle.one_thread.proofs.LineTurns.{front_stuck, front_of_none, due_at, line_in_turn}

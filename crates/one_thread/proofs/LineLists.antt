@@ -14,7 +14,7 @@ use Rattle.uart_line.specs.Received.{is_cut, window, window_output, overrun_mark
 use Rattle.uart_line.specs.Offered.{PutAnswer, appends, refuses, appended_list}
 use Rattle.uart_line.specs.Offered.{overrun_list, IsFullAt, AreAmong}
 use Rattle.uart_line.proofs.Steps.{cut_after, received_list-step}
-use Rattle.one_order.specs.Order.{cuts_after}
+use Rattle.legal_runs.specs.Order.{cuts_after}
 use Rattle.play_base.specs.Putting.{KnowsTaken}
 use Rattle.legal_runs.proofs.Truths.{if_false, if_true}
 use Rattle.play_base.proofs.Refusals.{All_later}

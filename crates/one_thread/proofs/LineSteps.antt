@@ -31,12 +31,12 @@ use Rattle.legal_runs.specs.Legal.{session_events, line_ends, AreInPhases}
 use Rattle.port_core.specs.Flips.{MeetsTaker, after_meeting}
 use Rattle.port_core.specs.Flushes.{Takes}
 use Rattle.port_core.specs.Ports.{PortValue, call_in, is_stuck, flush_entry}
-use Rattle.one_order.specs.Order.{Place, IsInTurn, first_place, place_after}
+use Rattle.legal_runs.specs.Order.{Place, IsInTurn, first_place, place_after}
 use Rattle.play_base.specs.Roles.{Scene}
 use Rattle.play_base.specs.Scenes.{HasAnyOrder, IsOfSceneIn, BeginsRun, RunsBelow, place_of}
 use Rattle.play_base.specs.Putting.{HasPut}
 use Rattle.one_thread.specs.LineInside.{LineStart, steps_before, IsInLine, with_all_pushed}
-use Rattle.one_order.proofs.Places.{in_phases_more, place_more, place_both, turns_more}
+use Rattle.legal_runs.proofs.Places.{in_phases_more, place_more, place_both, turns_more}
 use Rattle.legal_runs.proofs.Truths.{if_false}
 use Rattle.play_base.proofs.Meetings.{names_tell, sent_met, has_put_met, has_put_at}
 

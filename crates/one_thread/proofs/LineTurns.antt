@@ -10,8 +10,8 @@ use Rattle.tty_calls.specs.Sessions.{PlainSession, call_at}
 use Rattle.tty_terminal.specs.Terminals.{Terminal, live_count}
 use Rattle.tty_terminal.specs.Receiving.{accepts, after_character, after_characters, AcceptsAll}
 use Rattle.port_core.specs.Ports.{is_stuck}
-use Rattle.one_order.specs.Order.{Place, cuts_in, accepted_front, front_to_flush, due, turn, turn_after, turn_by_rank}
-use Rattle.one_order.specs.Order.{callers_of, IsInTurn, is_of_consoles}
+use Rattle.legal_runs.specs.Order.{Place, cuts_in, accepted_front, front_to_flush, due, turn, turn_after, turn_by_rank}
+use Rattle.legal_runs.specs.Order.{callers_of, IsInTurn, is_of_consoles}
 use Rattle.legal_runs.proofs.Truths.{if_false, if_true}
 
 -- ---- what is due

@@ -29,7 +29,7 @@ use Rattle.port_core.specs.Flips.{after_meeting}
 use Rattle.port_core.specs.Flushes.{Flushes}
 use Rattle.port_core.specs.Given.{with_put, with_pushed, FlushesGiven, DeniesGiven}
 use Rattle.port_core.specs.Ports.{PortValue, IsPort}
-use Rattle.one_order.specs.Order.{cuts_after}
+use Rattle.legal_runs.specs.Order.{cuts_after}
 use Rattle.play_base.specs.Scenes.{HasAnyOrder}
 use Rattle.play_base.specs.Putting.{HasPut, SeesFrom}
 use Rattle.one_thread.specs.Lines.{StopsLineIn}

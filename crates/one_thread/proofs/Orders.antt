@@ -10,7 +10,7 @@ use Rattle.tty_calls.specs.declared.answers.Denied.{Denied}
 use Rattle.tty_calls.specs.declared.answers.Denied.TheVariants.{NoMemory, Full}
 use Rattle.tty_calls.specs.Plain.{PlainCall, PlainEntry}
 use Rattle.port_core.specs.Ports.{PortValue}
-use Rattle.one_order.specs.Order.{first_place, AreInTurn, IsInTurn, is_of_consoles}
+use Rattle.legal_runs.specs.Order.{first_place, AreInTurn, IsInTurn, is_of_consoles}
 use Rattle.play_base.specs.Roles.{Scene}
 use Rattle.play_base.specs.Scenes.{place_of, HasAnyOrder, HasOneOrder}
 use Rattle.one_thread.specs.Stages.{IsAfterLineIn}
@@ -23,7 +23,7 @@ use Rattle.play_base.specs.declared.roles.Role.{Role}
 use Rattle.one_thread.specs.declared.after_line.Stand.{Stand}
 use Rattle.one_thread.specs.declared.after_line.Turn.{Turn}
 use Rattle.one_thread.specs.declared.after_line.Turn.TheVariants as turn
-use Rattle.one_order.proofs.Places.{turns_more}
+use Rattle.legal_runs.proofs.Places.{turns_more}
 use Rattle.one_thread.proofs.Possible.{by_rank}
 use Rattle.one_thread.proofs.Entries.{by_turn}
 use Rattle.play_base.proofs.OrderLemmas.{scene_in, order_goes_on}

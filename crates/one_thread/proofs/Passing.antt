@@ -28,7 +28,7 @@ use Rattle.legal_runs.specs.Legal.{first_step}
 use Rattle.port_core.specs.Flips.{shown_count}
 use Rattle.port_core.specs.Flushes.{Takes}
 use Rattle.port_core.specs.Ports.{PlainKept, PortValue, IsPort, Appends, phase_entry, flush_entry}
-use Rattle.one_order.specs.Order.{IsPiece, is_most, is_after_flush}
+use Rattle.legal_runs.specs.Order.{IsPiece, is_most, is_after_flush}
 use Rattle.play_base.specs.Roles.{Scene, calls_in, role_in, AreRolesOf}
 use Rattle.play_base.specs.Scenes.{place_of, HasAnyOrder, RunsBelow}
 use Rattle.one_thread.specs.Turns.{role_numbers, turn_with, IsPossible, standing_at, standing_at_rest}

@@ -4,7 +4,7 @@ use Rattle.std.specs.Prelude.{slice_index, MatchOption}
 use Rattle.tty_calls.specs.declared.journals.Who.TheVariants.{Caller}
 use Rattle.tty_terminal.specs.Steps.{nothing_to_flush}
 use Rattle.port_core.specs.Ports.{PortValue, call_in}
-use Rattle.one_order.specs.Order.{can_go_on, is_waiting}
+use Rattle.legal_runs.specs.Order.{can_go_on, is_waiting}
 use Rattle.one_thread.specs.Turns.{who_of, IsTurn, NoneIs, NothingGoesOn, IsFree, IsPossible, IsGoing}
 use Rattle.one_thread.specs.declared.after_line.Turn.{Turn}
 use Rattle.one_thread.specs.declared.after_line.Turn.TheVariants as turn

@@ -5,7 +5,7 @@ use Rattle.std.specs.Prelude.{slice_index}
 use Rattle.std.proofs.lemmas.List.{drop_more, get_or-map, length-map}
 use Rattle.tty_calls.specs.declared.journals.Who.{Who}
 use Rattle.tty_calls.specs.declared.journals.Who.TheVariants.{Caller, Flusher, Clock, Session}
-use Rattle.one_order.specs.Order.{first_of}
+use Rattle.legal_runs.specs.Order.{first_of}
 use Rattle.one_thread.specs.Turns.{role_numbers, turn_with, IsFirst, IsGoing, NoneIs}
 use Rattle.play_base.specs.declared.roles.Role.{Role}
 use Rattle.legal_runs.proofs.Truths.{if_false, if_true}

@@ -11,7 +11,7 @@ use Rattle.tty_terminal.specs.declared.callers.CallerState.{CallerState}
 use Rattle.tty_terminal.specs.Terminals.{caller_at, has_begun}
 use Rattle.port_core.specs.Attempts.{PlainTried, IsReady, Attempts}
 use Rattle.port_core.specs.Ports.{PortValue, Appends, end_entry}
-use Rattle.one_order.specs.Order.{is_of_consoles}
+use Rattle.legal_runs.specs.Order.{is_of_consoles}
 use Rattle.play_base.specs.Roles.{Scene, calls_in}
 use Rattle.play_base.specs.Scenes.{HasAnyOrder}
 use Rattle.one_thread.specs.Acts.{InOrder, HasNoCall, InLast, EndsCalls}

@@ -23,7 +23,7 @@ use Rattle.legal_runs.specs.Legal.{received_before}
 use Rattle.legal_runs.specs.Short.{after_phases}
 use Rattle.legal_runs.specs.Phases.{HasPlayed, CompletesPhase}
 use Rattle.port_core.specs.Ports.{PortValue}
-use Rattle.one_order.specs.Order.{Place, place_after, first_place, cuts_flushed}
+use Rattle.legal_runs.specs.Order.{Place, place_after, first_place, cuts_flushed}
 use Rattle.play_base.specs.Roles.{Scene}
 use Rattle.play_base.specs.Scenes.{place_of, AreAtFirst, IsOfSceneIn}
 use Rattle.one_thread.specs.Stages.{EndsAfterLineIn, StopsAfterLine}
@@ -31,7 +31,7 @@ use Rattle.play_base.specs.Putting.{HasPut}
 use Rattle.play_base.specs.Beginning.{IsAtPhaseIn, IsAtPhase}
 use Rattle.one_thread.specs.Lines.{PlaysLineIn, PlaysLine, StopsInLineIn, StopsLine}
 use Rattle.play_base.specs.Phases.{HasFewTicks, HavePlayed, HavePlayedInOrder, IsFullRun, StopsFull}
-use Rattle.one_order.proofs.Places.{place_more}
+use Rattle.legal_runs.proofs.Places.{place_more}
 use Rattle.play_base.proofs.JournalLemmas.{none_ends, leads_both, stops_within}
 use Rattle.play_base.proofs.ReceivedLemmas.{script_parts, kept_later, arrivals_fit, hands_over_loaded}
 use Rattle.play_base.proofs.PhaseLemmas.{few_ticks, phase_stays, PlaysPart, line_inside, all_see_within, played_more}

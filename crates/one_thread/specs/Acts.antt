@@ -16,7 +16,7 @@ use Rattle.tty_terminal.specs.Runs.{Leads, KnowsMore, is_flush, is_of_call}
 use Rattle.legal_runs.specs.Legal.{phase_at, session_events_in}
 use Rattle.port_core.specs.Attempts.{PlainTried, Attempts}
 use Rattle.port_core.specs.Ports.{PortValue, call_in, Appends, end_entry}
-use Rattle.one_order.specs.Order.{is_of_consoles}
+use Rattle.legal_runs.specs.Order.{is_of_consoles}
 use Rattle.play_base.specs.Roles.{Scene, calls_in}
 use Rattle.play_base.specs.Scenes.{HasAnyOrder, HasOneOrder}
 use Rattle.one_thread.specs.Stages.{EndsAfterLineIn, EndsAfterLine}

@@ -20,7 +20,7 @@ use Rattle.port_core.specs.declared.ports.flushing.Flushed.TheVariants.{Took, No
 use Rattle.port_core.specs.Flips.{MeetsTaker, after_meeting}
 use Rattle.port_core.specs.Flushes.{Flushes}
 use Rattle.port_core.specs.Ports.{PortValue, IsPort, Denies, is_stuck}
-use Rattle.one_order.specs.Order.{cuts_after, AreInTurn}
+use Rattle.legal_runs.specs.Order.{cuts_after, AreInTurn}
 use Rattle.play_base.specs.Roles.{Scene}
 use Rattle.play_base.specs.Scenes.{HasAnyOrder, IsOfSceneIn, AreAtFirst, BeginsRun, place_of}
 use Rattle.play_base.specs.Putting.{HasPut, KnowsTaken, SeesFrom}

@@ -13,7 +13,7 @@ use Rattle.tty_calls.specs.Sessions.{call_at, counts_on}
 use Rattle.tty_terminal.specs.Runs.{Leads, chars_of}
 use Rattle.legal_runs.specs.Legal.{script_of_first, session_events_in, line_ends_in}
 use Rattle.port_core.specs.Ports.{PortValue}
-use Rattle.one_order.specs.Order.{AreInTurn}
+use Rattle.legal_runs.specs.Order.{AreInTurn}
 use Rattle.play_base.specs.Roles.{Scene}
 use Rattle.play_base.specs.Scenes.{HasOneOrder, IsOfSceneIn, place_of}
 use Rattle.one_thread.specs.Stages.{IsAfterLineIn}

@@ -15,7 +15,7 @@ use Rattle.tty_terminal.specs.Runs.{Leads}
 use Rattle.legal_runs.specs.Legal.{phase_at, name_at, has_script, first_step, steps_in, session_events_in}
 use Rattle.legal_runs.specs.Phases.{HasPlayed}
 use Rattle.port_core.specs.Ports.{PortValue}
-use Rattle.one_order.specs.Order.{turn_after, is_after_flush}
+use Rattle.legal_runs.specs.Order.{turn_after, is_after_flush}
 use Rattle.play_base.specs.Roles.{Scene}
 use Rattle.play_base.specs.Scenes.{place_of, HasOneOrder, IsOfSceneIn, IsOfScene, AreAtFirst, BeginsRun}
 

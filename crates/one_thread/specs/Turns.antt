@@ -14,7 +14,7 @@ use Rattle.tty_terminal.specs.Standing.{Standing, standing_of}
 use Rattle.legal_runs.specs.Legal.{first_step, session_events, flip_on}
 use Rattle.port_core.specs.Attempts.{PlainTried, done_by, took_part, must_wait}
 use Rattle.port_core.specs.Ports.{PlainKept, PortValue, call_in}
-use Rattle.one_order.specs.Order.{first_of, can_go_on, is_waiting, turn_by_rank, turn_after, is_after_flush, IsPieceOf}
+use Rattle.legal_runs.specs.Order.{first_of, can_go_on, is_waiting, turn_by_rank, turn_after, is_after_flush, IsPieceOf}
 use Rattle.play_base.specs.Roles.{Scene, calls_in, role_in, AreRolesOf}
 use Rattle.play_base.specs.Scenes.{place_of, HasAnyOrder, HasOneOrder, IsOfSceneIn, RunsBelow}
 use Rattle.play_base.specs.declared.roles.Role.{Role}

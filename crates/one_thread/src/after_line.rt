@@ -8,7 +8,7 @@ ghost use Rattle.tty_terminal.specs.Steps.{after};
 ghost use Rattle.port_core.specs.Attempts.{tried_of};
 ghost use Rattle.port_core.specs.Ports.{call_in, Denies, IsOpen};
 ghost use Rattle.legal_runs.specs.Legal.{phase_at};
-ghost use Rattle.one_order.specs.Order.{can_go_on, is_of_consoles, is_waiting};
+ghost use Rattle.legal_runs.specs.Order.{can_go_on, is_of_consoles, is_waiting};
 ghost use Rattle.play_base.specs.Roles.{Scene, calls_in, role_in, AreRolesOf};
 ghost use Rattle.one_thread.specs.Stages.{IsAfterLine, EndsAfterLine, StopsAfterLine};
 ghost use Rattle.one_thread.specs.Turns.{role_numbers, IsFirst, IsTurn, Plays, PlaysOn, next_run, going_after};

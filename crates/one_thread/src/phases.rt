@@ -5,7 +5,7 @@ ghost use Rattle.tty_base.specs.Lines.{is_step};
 ghost use Rattle.tty_calls.specs.Limits.{IsWithinLimits};
 ghost use Rattle.tty_calls.specs.Sessions.{session_of, line_on, ticks_on};
 ghost use Rattle.legal_runs.specs.Legal.{phase_at};
-ghost use Rattle.one_order.specs.Order.{is_of_consoles};
+ghost use Rattle.legal_runs.specs.Order.{is_of_consoles};
 ghost use Rattle.play_base.specs.Roles.{Scene, scene_of, names_in, role_in, AreRolesOf};
 ghost use Rattle.play_base.specs.Beginning.{IsAtPhase};
 ghost use Rattle.play_base.specs.Phases.{HavePlayedInOrder, IsBeforePhase, IsStopped};

@@ -18,7 +18,7 @@ use Rattle.play_base.specs.declared.roles.Role.{Role}
 use Rattle.one_thread.specs.declared.after_line.Stand.{Stand}
 use Rattle.one_thread.specs.declared.after_line.Turn.TheVariants as turn
 use Rattle.one_thread.proofs.Calling.{role_of}
-use Rattle.one_order.proofs.Places.{phase_from, leads_phase}
+use Rattle.legal_runs.proofs.Places.{phase_from, leads_phase}
 use Rattle.order_laws.specs.Agreed.{Agrees}
 
 -- ---- the entries before the last, and the last

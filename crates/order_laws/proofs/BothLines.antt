@@ -22,8 +22,8 @@ use Rattle.legal_runs.specs.Legal.{line_ends_in}
 use Rattle.legal_runs.specs.Legal.{before_line_end, received_before, sent_by, script_of_first, script_on, flip_on}
 use Rattle.legal_runs.specs.Legal.{IsOverrunOfPhase}
 use Rattle.legal_runs.specs.Legal.{AreSeen}
-use Rattle.one_order.specs.Order.{Place}
-use Rattle.one_order.specs.Order.{AllSeeAll}
+use Rattle.legal_runs.specs.Order.{Place}
+use Rattle.legal_runs.specs.Order.{AllSeeAll}
 use Rattle.play_base.proofs.ReceivedLemmas.{script_parts, list_grows, kept_later}
 use Rattle.order_laws.specs.Lost.{overruns_after, taken_before_line_end, excess, overruns_before}
 use Rattle.order_laws.specs.Growth.{HasShape}

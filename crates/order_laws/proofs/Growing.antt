@@ -21,10 +21,10 @@ use Rattle.tty_terminal.proofs.StandingLaws.{step_stands, leads_stands}
 use Rattle.legal_runs.specs.Legal.{IsInPhase, AreInPhases, is_caller_end, steps_in, flip_on}
 use Rattle.legal_runs.proofs.PhaseLemmas.{phase-after}
 use Rattle.legal_runs.proofs.Truths.{if_true}
-use Rattle.one_order.specs.Order.{Place, first_place, next_place, AreInTurn, IsPieceOf, is_most, is_after_flush}
-use Rattle.one_order.specs.Order.{front_to_flush, due, turn, turn_after, turn_by_rank, is_of_consoles, callers_of}
-use Rattle.one_order.specs.Order.{cuts_flushed, first_of, can_go_on, is_waiting, must_wait}
-use Rattle.one_order.proofs.Places.{phase_from, leads_phase}
+use Rattle.legal_runs.specs.Order.{Place, first_place, next_place, AreInTurn, IsPieceOf, is_most, is_after_flush}
+use Rattle.legal_runs.specs.Order.{front_to_flush, due, turn, turn_after, turn_by_rank, is_of_consoles, callers_of}
+use Rattle.legal_runs.specs.Order.{cuts_flushed, first_of, can_go_on, is_waiting, must_wait}
+use Rattle.legal_runs.proofs.Places.{phase_from, leads_phase}
 use Rattle.one_thread.proofs.Ranks.{first_same}
 use Rattle.order_laws.specs.Growth.{HasShape, Grew, KeepsEnded}
 use Rattle.order_laws.proofs.Shapes.{phases_same, counts_same, cuts_same, callers_same, caller_same}

@@ -11,7 +11,7 @@ use Rattle.tty_terminal.specs.Runs.{KnowsMore}
 use Rattle.legal_runs.specs.Legal.{phase_at}
 use Rattle.port_core.specs.Attempts.{PlainTried}
 use Rattle.port_core.specs.Ports.{PlainKept, PortValue, IsPort, call_in, end_entry}
-use Rattle.one_order.specs.Order.{is_of_consoles}
+use Rattle.legal_runs.specs.Order.{is_of_consoles}
 use Rattle.play_base.specs.Roles.{Scene, role_in, AreRolesOf}
 use Rattle.play_base.specs.Scenes.{HasAnyOrder, HasOneOrder}
 use Rattle.one_thread.specs.Stages.{EndsAfterLineIn}

@@ -25,7 +25,7 @@ use Rattle.legal_runs.specs.Legal.{AreSeen, IsFinishedFrom, IsLegal}
 use Rattle.legal_runs.proofs.LineLemmas.{none_first}
 use Rattle.legal_runs.proofs.EventLemmas.{no_phase_end}
 use Rattle.legal_runs.proofs.Truths.{nothing_first, nothing_rest}
-use Rattle.one_order.specs.Order.{AllSeeAll}
+use Rattle.legal_runs.specs.Order.{AllSeeAll}
 use Rattle.play_base.proofs.ReceivedLemmas.{script_whole, kept_later}
 use Rattle.order_laws.specs.Lost.{overruns_after, taken_before_line_end, excess, overruns_in, overruns_before}
 

@@ -24,9 +24,9 @@ use Rattle.legal_runs.proofs.PhaseLemmas.{phase-after}
 use Rattle.legal_runs.specs.Legal.{ClockMark, clock_marks, line_ends}
 use Rattle.legal_runs.specs.Legal.{first_step, steps_in, IsInPhase, AreInPhases}
 use Rattle.legal_runs.proofs.Truths.{if_true}
-use Rattle.one_order.specs.Order.{Place, first_place, next_place, accepted_front, due, turn}
-use Rattle.one_order.specs.Order.{is_after_flush, IsPieceOf, AreInTurn, AllSeeAll, IsInOneOrder}
-use Rattle.one_order.proofs.Places.{phase_from}
+use Rattle.legal_runs.specs.Order.{Place, first_place, next_place, accepted_front, due, turn}
+use Rattle.legal_runs.specs.Order.{is_after_flush, IsPieceOf, AreInTurn, AllSeeAll, IsInOneOrder}
+use Rattle.legal_runs.proofs.Places.{phase_from}
 use Rattle.order_laws.specs.Growth.{HasShape}
 use Rattle.order_laws.proofs.Growing.{due_same}
 use Rattle.order_laws.proofs.Shapes.{counts_same, phases_same}

@@ -20,7 +20,7 @@ use Rattle.legal_runs.proofs.PhaseLemmas.{phase-after}
 use Rattle.legal_runs.specs.Legal.{line_ends}
 use Rattle.legal_runs.specs.Legal.{line_ends_in, is_phase_end}
 use Rattle.legal_runs.specs.Legal.{before_line_end, sent_by}
-use Rattle.one_order.specs.Order.{Place, next_place}
+use Rattle.legal_runs.specs.Order.{Place, next_place}
 use Rattle.order_laws.specs.Lost.{taken_before_line_end}
 use Rattle.order_laws.proofs.NextEntry.{IsRest, rest_of}
 

@@ -29,9 +29,9 @@ use Rattle.legal_runs.specs.Legal.{line_ends_in, session_events, session_events_
 use Rattle.legal_runs.specs.Legal.{script_on}
 use Rattle.legal_runs.specs.Legal.{first_step, steps_in, IsInPhase, IsFinishedFrom, IsLegal}
 use Rattle.legal_runs.proofs.Truths.{nothing_first, nothing_rest}
-use Rattle.one_order.specs.Order.{Place, first_place, next_place, turn, cuts_flushed}
-use Rattle.one_order.specs.Order.{AreInTurn, IsInOneOrder}
-use Rattle.one_order.proofs.Places.{phase_from}
+use Rattle.legal_runs.specs.Order.{Place, first_place, next_place, turn, cuts_flushed}
+use Rattle.legal_runs.specs.Order.{AreInTurn, IsInOneOrder}
+use Rattle.legal_runs.proofs.Places.{phase_from}
 use Rattle.order_laws.specs.Lost.{taken_before_line_end, overruns_before, IsSameRun}
 use Rattle.order_laws.specs.Growth.{HasShape}
 use Rattle.order_laws.proofs.Growing.{place_same}

@@ -14,7 +14,7 @@ use Rattle.tty_calls.specs.Limits.{character_count}
 use Rattle.tty_calls.specs.Sessions.{PlainPhase, PlainSession, line_on}
 use Rattle.legal_runs.specs.Legal.{script_of_first}
 use Rattle.legal_runs.proofs.LineLemmas.{received_none}
-use Rattle.one_order.specs.Order.{AreInTurn, first_place}
+use Rattle.legal_runs.specs.Order.{AreInTurn, first_place}
 use Rattle.play_base.specs.Roles.{Scene}
 use Rattle.play_base.specs.Scenes.{caller_at_rest, place_of}
 use Rattle.play_base.specs.Beginning.{IsAtPhase}

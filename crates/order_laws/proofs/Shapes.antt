@@ -11,7 +11,7 @@ use Rattle.tty_calls.specs.Sessions.{PlainScript, PlainPhase, PlainSession, line
 use Rattle.tty_calls.specs.Sessions.{scripts_over, with_name, names_of, number_in, counts_on}
 use Rattle.uart_line.specs.Received.{script, closed_script}
 use Rattle.legal_runs.specs.Legal.{phase_at, name_at, has_script, script_of_first}
-use Rattle.one_order.specs.Order.{cuts_after, cuts_in, callers_of}
+use Rattle.legal_runs.specs.Order.{cuts_after, cuts_in, callers_of}
 use Rattle.order_laws.specs.Growth.{names_in, HasShape}
 
 abbrev pub name_of : PlainScript → List ℕ

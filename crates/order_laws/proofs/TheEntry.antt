@@ -20,7 +20,7 @@ use Rattle.tty_terminal.specs.Steps.{quiet, Answers, Drops, MustWait, TakesPart,
 use Rattle.tty_terminal.specs.Runs.{phase_after}
 use Rattle.legal_runs.specs.Legal.{ClockMark, ticks, clock_ends, clock_marks, line_ends, first_step, steps_in}
 use Rattle.legal_runs.specs.Legal.{IsInPhase}
-use Rattle.one_order.specs.Order.{Place, accepted_front, due, turn, is_most, is_after_flush, IsPieceOf}
+use Rattle.legal_runs.specs.Order.{Place, accepted_front, due, turn, is_most, is_after_flush, IsPieceOf}
 use Rattle.legal_runs.proofs.Truths.{if_false, if_true}
 
 -- ---- what a flush takes

@@ -5,7 +5,7 @@ use Rattle.tty_calls.specs.Sessions.{PlainScript, PlainPhase, PlainSession, line
 use Rattle.tty_terminal.specs.Terminals.{Terminal, caller_at}
 use Rattle.tty_terminal.specs.Runs.{KnowsMore}
 use Rattle.legal_runs.specs.Legal.{first_step, steps_in, flip_on}
-use Rattle.one_order.specs.Order.{is_of_consoles}
+use Rattle.legal_runs.specs.Order.{is_of_consoles}
 
 -- the names of a port's callers in a phase, in the text's order
 abbrev pub names_in : ℕ → PlainPhase → List (List ℕ)

@@ -1,3 +1,11 @@
 pub mod Lost
 pub mod Growth
 pub mod Agreed
+pub mod Passed
+pub mod Filled
+pub mod Witness
+pub mod Later
+pub mod Begun
+pub mod Left
+pub mod Sessions
+pub mod Same

@@ -12,7 +12,7 @@ ghost use Rattle.tty_calls.specs.Sessions.{line_on, ticks_on};
 ghost use Rattle.legal_runs.specs.Legal.{phase_at};
 ghost use Rattle.port_core.specs.Attempts.{PlainTried};
 ghost use Rattle.port_core.specs.Ports.{PortValue, IsPort};
-ghost use Rattle.one_order.specs.Order.{is_of_consoles};
+ghost use Rattle.legal_runs.specs.Order.{is_of_consoles};
 ghost use Rattle.play_base.specs.Roles.{Scene};
 ghost use Rattle.play_base.specs.Phases.{IsBeforePhase};
 ghost use Rattle.play_base.specs.declared.stations.Station.{Station};

@@ -7,7 +7,7 @@ ghost use Rattle.tty_calls.specs.Sessions.{PlainSession, call_at, counts_on};
 ghost use Rattle.tty_terminal.specs.Terminals.{Terminal};
 ghost use Rattle.tty_terminal.specs.Runs.{IsRun};
 ghost use Rattle.legal_runs.specs.Legal.{AreInPhases, IsLegal, IsLegalOn, flip_on, name_at, steps_in};
-ghost use Rattle.one_order.specs.Order.{AreInTurn, IsInOneOrder, first_place};
+ghost use Rattle.legal_runs.specs.Order.{AreInTurn, IsInOneOrder, first_place};
 ghost use Rattle.order_laws.specs.Growth.{AddsCall, Grew, KeepsEnded};
 ghost use Rattle.order_laws.specs.Lost.{overruns_before, IsSameRun};
 

@@ -14,9 +14,9 @@ use Rattle.order_laws.specs.Agreed.{Agrees}
 use Rattle.order_laws.specs.Growth.{HasShape}
 use Rattle.order_laws.proofs.Shapes.{phases_same, caller_same}
 use Rattle.passed_calls.specs.Derived.{Passing, BlockPhase}
-use Rattle.passed_laws.specs.Passed.{IsPassedBy}
-use Rattle.passed_laws.specs.Witness.{scene_on}
-use Rattle.passed_laws.proofs.Counted.{first_is, call_is}
+use Rattle.order_laws.specs.Passed.{IsPassedBy}
+use Rattle.order_laws.specs.Witness.{scene_on}
+use Rattle.order_laws.proofs.Counted.{first_is, call_is}
 
 abbrev nothing : PlainPhase
 nothing = record { lines = []; ticks = []; callers = [] }

@@ -17,7 +17,7 @@ use Rattle.passed_calls.specs.Logs.{logged_on}
 use Rattle.passed_calls.specs.Within.{ArePassedWithin, AreBlocksWithin}
 use Rattle.passed_calls.specs.declared.logs.Logged.{Logged}
 use Rattle.passed_calls.proofs.Limits.{within_limits}
-use Rattle.passed_laws.specs.Sessions.{BlockSession, played_session, journal_on, AreNotFull}
+use Rattle.order_laws.specs.Sessions.{BlockSession, played_session, journal_on, AreNotFull}
 use Rattle.passed_ports.specs.Ports.{ArePassingsWithin, IsPlayedSo, ArePlayedFirst}
 use Rattle.passed_ports.proofs.Started.{below_or}
 

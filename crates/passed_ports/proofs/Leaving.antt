@@ -24,10 +24,10 @@ use Rattle.passed_calls.specs.Derived.{BlockPhase, blocks_of}
 use Rattle.passed_calls.specs.Scripts.{AnyCall, CallerScript, block_of, count_in, mixed, mixed_scripts, calls_named}
 use Rattle.passed_calls.specs.Scripts.{numbered_call}
 use Rattle.passed_calls.specs.Within.{IsBlockPhaseWithin, call_count}
-use Rattle.passed_laws.specs.Passed.{steps_named, begin_of}
-use Rattle.passed_laws.proofs.Passings.{first_within}
-use Rattle.passed_laws.proofs.Shares.{on_port, over, named, AreCounted, begin_nobody, begin_next}
-use Rattle.passed_laws.proofs.Shares.{call_of_phase, has, none_named, own_named, Own}
+use Rattle.order_laws.specs.Passed.{steps_named, begin_of}
+use Rattle.order_laws.proofs.Passings.{first_within}
+use Rattle.order_laws.proofs.Shares.{on_port, over, named, AreCounted, begin_nobody, begin_next}
+use Rattle.order_laws.proofs.Shares.{call_of_phase, has, none_named, own_named, Own}
 use Rattle.calls_left.specs.Remaining.{left_at, IsLeftTo}
 
 -- ---- names of scripts

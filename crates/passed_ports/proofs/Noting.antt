@@ -3,8 +3,8 @@ use Rattle.std.proofs.Common.{◌≡◌, ◌≤◌, ◌<◌, inl, inr, ℕ, ◌+
 use Rattle.std.specs.Prelude.{slice_index_or, slice_set}
 use Rattle.std.proofs.lemmas.Bool.{cases_eq}
 use Rattle.tty_terminal.specs.Terminals.{Terminal, caller_at}
-use Rattle.passed_laws.specs.Filled.{AreNextSteps}
-use Rattle.passed_laws.proofs.Steps.{step_own, step_other}
+use Rattle.order_laws.specs.Filled.{AreNextSteps}
+use Rattle.order_laws.proofs.Steps.{step_own, step_other}
 
 -- noted one after the other
 pub record HasNoted (t : Terminal) (count : ℕ) (steps : List ℕ) : Type 0 where

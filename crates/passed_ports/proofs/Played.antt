@@ -16,12 +16,12 @@ use Rattle.play_base.specs.Scenes.{IsOfSceneIn}
 use Rattle.order_laws.specs.Agreed.{Agrees, IsLike}
 use Rattle.passed_calls.specs.Derived.{Passing, BlockPhase, by_caller}
 use Rattle.passed_calls.specs.Journals.{terminal_after}
-use Rattle.passed_laws.specs.Passed.{IsPassedBy}
-use Rattle.passed_laws.specs.Witness.{scene_on, HasPassed}
-use Rattle.passed_laws.specs.Later.{IsLater}
-use Rattle.passed_laws.proofs.Adding.{like_first}
-use Rattle.passed_laws.proofs.Blocks.{of_blocks, same_shape}
-use Rattle.passed_laws.specs.Sessions.{BlockSession, journal_in}
+use Rattle.order_laws.specs.Passed.{IsPassedBy}
+use Rattle.order_laws.specs.Witness.{scene_on, HasPassed}
+use Rattle.order_laws.specs.Later.{IsLater}
+use Rattle.order_laws.proofs.PassedAdding.{like_first}
+use Rattle.order_laws.proofs.Blocks.{of_blocks, same_shape}
+use Rattle.order_laws.specs.Sessions.{BlockSession, journal_in}
 use Rattle.passed_ports.specs.Ports.{IsSceneOf, IsPlayedWith}
 use Rattle.passed_ports.proofs.Alike.{agrees_alike}
 

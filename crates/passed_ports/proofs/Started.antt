@@ -15,10 +15,10 @@ use Rattle.passed_calls.specs.Derived.{Passing, BlockPhase, by_caller, calls_at}
 use Rattle.passed_calls.specs.Journals.{Journal}
 use Rattle.port_core.specs.Ports.{PortValue, IsPort, call_in}
 use Rattle.play_base.specs.Roles.{Scene}
-use Rattle.passed_laws.specs.Witness.{HasPassed}
-use Rattle.passed_laws.specs.Begun.{begun_at}
-use Rattle.passed_laws.specs.Later.{IsLater}
-use Rattle.passed_laws.specs.Sessions.{begun_calls}
+use Rattle.order_laws.specs.Witness.{HasPassed}
+use Rattle.order_laws.specs.Begun.{begun_at}
+use Rattle.order_laws.specs.Later.{IsLater}
+use Rattle.order_laws.specs.Sessions.{begun_calls}
 use Rattle.passed_ports.specs.Ports.{ArePassingsWithin}
 
 abbrev pub one_if : Bool → Passing → List Passing

@@ -9,8 +9,8 @@ use Rattle.play_base.specs.Roles.{Scene}
 use Rattle.passed_calls.specs.Derived.{Passing, by_caller, calls_at}
 use Rattle.passed_calls.specs.Logs.{logged_on}
 use Rattle.passed_calls.specs.declared.logs.Logged.{Logged}
-use Rattle.passed_laws.specs.Passed.{IsOfBlocks, IsPassedBy}
-use Rattle.passed_laws.specs.Sessions.{BlockSession}
+use Rattle.order_laws.specs.Passed.{IsOfBlocks, IsPassedBy}
+use Rattle.order_laws.specs.Sessions.{BlockSession}
 
 -- a scene that is played of it: the same but for the callers' calls
 pub record IsSceneOf (first : Scene) (session : BlockSession) : Type 0 where

@@ -8,7 +8,7 @@ ghost use Rattle.tty_calls.specs.Sessions.{script_of};
 ghost use Rattle.tty_terminal.specs.Terminals.{caller_at};
 ghost use Rattle.play_base.specs.Casting.{AreNumbered, HaveSameCallers, cast_of};
 ghost use Rattle.play_base.specs.Roles.{role_in};
-ghost use Rattle.passed_laws.specs.Filled.{AreNextSteps};
+ghost use Rattle.order_laws.specs.Filled.{AreNextSteps};
 
 use play_base::{Role, cast};
 use port_core::Port;

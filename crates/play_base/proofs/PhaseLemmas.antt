@@ -18,7 +18,7 @@ use Rattle.legal_runs.specs.Short.{tick_count_in}
 use Rattle.legal_runs.specs.Phases.{BeginsPhase, CompletesPhase}
 use Rattle.legal_runs.proofs.PhaseLemmas.{phase-after}
 use Rattle.legal_runs.proofs.MarkLemmas.{phase_part}
-use Rattle.one_order.specs.Order.{SeesAll, AllSeeAll}
+use Rattle.legal_runs.specs.Order.{SeesAll, AllSeeAll}
 use Rattle.play_base.specs.Roles.{Scene}
 use Rattle.play_base.specs.Putting.{SeesIn}
 use Rattle.play_base.specs.Phases.{phase_count, IsUpTo, HasFewTicks, SeesWithin, HavePlayed, HaveSeenAll}

@@ -37,7 +37,7 @@ use Rattle.legal_runs.specs.Legal.{IsAccounted}
 use Rattle.legal_runs.specs.Short.{is_tick, tick_count_in, after_phases}
 use Rattle.port_core.specs.Ports.{PortValue, IsPort, call_in, hangup_entry}
 use Rattle.port_core.specs.Phases.{HangsUp}
-use Rattle.one_order.specs.Order.{Place, first_place, turn, AreInTurn, IsPieceOf, AllSeeAll}
+use Rattle.legal_runs.specs.Order.{Place, first_place, turn, AreInTurn, IsPieceOf, AllSeeAll}
 use Rattle.play_base.specs.Roles.{Scene, names_in, AreFirstSteps}
 use Rattle.play_base.specs.Scenes.{place_of, caller_at_rest, HasAnyOrder, HasOneOrder, IsOfSceneIn, IsOfScene}
 use Rattle.play_base.specs.Putting.{HasPut}
@@ -45,7 +45,7 @@ use Rattle.play_base.specs.Beginning.{IsAtPhaseIn, IsAtPhase}
 use Rattle.play_base.specs.Played.{IsPlayedOn, ArePlayed, IsRunInOrder, AreInOneOrder}
 use Rattle.play_base.specs.Phases.{phase_count, HasFewTicks, HavePlayed, HaveSeenAll, HavePlayedInOrder, IsPortOf}
 use Rattle.play_base.specs.Phases.{IsFullRun, IsAtEnd, IsLeftOf, EndsRun, AreFirstPlayed}
-use Rattle.one_order.proofs.Places.{leads_place}
+use Rattle.legal_runs.proofs.Places.{leads_place}
 use Rattle.play_base.proofs.OrderLemmas.{order_goes_on}
 use Rattle.play_base.proofs.JournalLemmas.{one_if, all_phases_after, up_after, ticks_both, leads_both}
 use Rattle.play_base.proofs.ReceivedLemmas.{script_whole, kept_front, overruns_within, all_counted, list_grows}

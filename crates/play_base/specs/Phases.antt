@@ -20,7 +20,7 @@ use Rattle.tty_terminal.specs.Runs.{IsRun}
 use Rattle.port_core.specs.Ports.{PortValue, IsPort, call_in}
 use Rattle.play_base.specs.Played.{IsEndOf, IsPlayedOn}
 use Rattle.play_base.specs.declared.stations.Station.{Station}
-use Rattle.one_order.specs.Order.{AreInTurn, AllSeeAll}
+use Rattle.legal_runs.specs.Order.{AreInTurn, AllSeeAll}
 use Rattle.play_base.specs.Roles.{Scene, AreFirstSteps}
 use Rattle.play_base.specs.Scenes.{place_of, IsOfScene}
 use Rattle.play_base.specs.Putting.{HasPut}

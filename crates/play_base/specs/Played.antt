@@ -7,7 +7,7 @@ use Rattle.tty_calls.specs.Sessions.{PlainSession}
 use Rattle.tty_terminal.specs.Terminals.{Terminal}
 use Rattle.legal_runs.specs.Legal.{IsLegal}
 use Rattle.legal_runs.specs.Short.{IsCutShort}
-use Rattle.one_order.specs.Order.{first_place, AreInTurn, IsInOneOrder}
+use Rattle.legal_runs.specs.Order.{first_place, AreInTurn, IsInOneOrder}
 
 -- what a report prints of the end of a port that has come to this terminal
 pub record IsEndOf (t : Terminal) (end : PortEnd) : Type 0 where

@@ -8,7 +8,7 @@ use Rattle.tty_calls.specs.Limits.{IsCallWithin}
 use Rattle.tty_calls.specs.Sessions.{PlainSession, session_of, scripts_over, names_of, call_at, counts_on}
 use Rattle.tty_terminal.specs.Steps.{callers_in}
 use Rattle.legal_runs.specs.Legal.{IsCallerOf, first_step, steps_in}
-use Rattle.one_order.specs.Order.{callers_of}
+use Rattle.legal_runs.specs.Order.{callers_of}
 use Rattle.play_base.specs.declared.roles.Role.{Role}
 
 -- a port of a session that is played

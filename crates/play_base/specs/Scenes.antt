@@ -9,7 +9,7 @@ use Rattle.tty_terminal.specs.Steps.{follows}
 use Rattle.tty_terminal.specs.Runs.{KnowsMore, is_flush}
 use Rattle.legal_runs.specs.Legal.{first_step, AreInPhases, flip_on}
 use Rattle.port_core.specs.Ports.{PortValue, call_in}
-use Rattle.one_order.specs.Order.{Place, first_place, place_after, AreInTurn}
+use Rattle.legal_runs.specs.Order.{Place, first_place, place_after, AreInTurn}
 use Rattle.play_base.specs.Roles.{Scene}
 
 -- each flush run so far has a number below this one

@@ -1,9 +1,10 @@
 //! A port of a session, from its opening to its hangup.
 
 ghost use Rattle.std.specs.Prelude.{◌≡◌, ◌<◌, ◌≤◌, IfOk, length};
-ghost use Rattle.tty_base.specs.Sizes.{MOST_ARRIVALS};
+ghost use Rattle.tty_base.specs.Sizes.{LEAST_FLIP, MOST_ARRIVALS, MOST_FLIP};
 ghost use Rattle.tty_calls.specs.Limits.{IsWithinLimits, character_count};
 ghost use Rattle.tty_calls.specs.Sessions.{session_of};
+ghost use Rattle.legal_runs.specs.Legal.{flip_on};
 ghost use Rattle.play_base.specs.Roles.{Scene, scene_of, names_in};
 ghost use Rattle.play_base.specs.Phases.{HaveSeenAll, IsBeforePhase, IsPortOf, IsFullRun, IsAtEnd, IsLeftOf, EndsRun};
 ghost use Rattle.play_base.specs.Leaving.{EndsJournal};
@@ -35,6 +36,17 @@ fn room_on(session: &Session, number: usize) -> u32
     steps.min(MOST_ARRIVALS) as u32
 }
 
+/// The room of a port's flip buffer.
+fn capacity_on(session: &Session, number: usize) -> usize
+    requires within { IsWithinLimits (session_of session.now) }
+    requires port { number < (session_of session.now).ports }
+    ensures is { result ≡ flip_on number (session_of session.now) }
+    ensures enough { LEAST_FLIP ≤ result }
+    ensures few { result ≤ MOST_FLIP }
+{
+    session.flips.as_slice()[number] as usize
+}
+
 /// A port at the beginning of its session.
 pub fn open_port(
     alloc: Global,
@@ -47,7 +59,7 @@ pub fn open_port(
     requires names { names.now ≡ names_in (scene_of number session.now) }
     ensures { IfOk result (λ station. IsBeforePhase (scene_of number session.now) 0 station 0) }
 {
-    let capacity = session.flips.as_slice()[number] as usize;
+    let capacity = capacity_on(session, number);
     let counts = counts_of(alloc, session, number)?;
     let steps = vec![in alloc; 0; names.len()]?;
     let line = Line::new(alloc, room_on(session, number))?;

@@ -132,12 +132,12 @@ impl<V: Kept> Cell<V> {
             → is_raised seat.old ≡ false
             → generation_in (last_word seat.new) ≡ generation_of (list_seen seat.old) }
     {
-        let word = self
+        let found = self
             .table
             .shared
             .fetch_or::<Mark>(seat, REFERENCES, CHANGING);
-        if is_changing(word) {
-            return Err(Changing { word });
+        if is_changing(found) {
+            return Err(Changing { word: found });
         }
         Ok(())
     }

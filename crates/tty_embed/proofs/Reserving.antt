@@ -1,31 +1,38 @@
 -- Reserved room makes no difference: what the fields do is what the terminal does.
-use Rattle.std.proofs.Common.{◌≡◌, ℕ, ◌≤◌, ◌%◌, ◌^◌, min, Bool, true, false}
-use Rattle.std.proofs.Common.{if◌then◌else◌, List, length, map, take, ap, sym, ◌∙◌, arith}
+use Rattle.std.proofs.Common.{◌≡◌, ℕ, ◌≤◌, ◌%◌, ◌^◌, min, Bool, true, false, not, ◌&&◌, Some, None, ◌++◌}
+use Rattle.std.proofs.Common.{if◌then◌else◌, List, length, map, take, drop, ap, sym, ◌∙◌, arith}
 use Rattle.std.proofs.lemmas.List.{length-take, take_min}
-use Rattle.tty_base.specs.Sizes.{PIECE}
+use Rattle.tty_base.specs.Sizes.{MOST_READ, PIECE}
 use Rattle.tty_base.specs.declared.characters.Flagged.{Flagged}
-use Rattle.tty_modes.specs.declared.places.TheConstants.{ICANON}
+use Rattle.tty_modes.specs.declared.places.TheConstants.{ICANON, IXON}
+use Rattle.tty_modes.specs.declared.words.Word.{Word}
 use Rattle.tty_modes.specs.Settings.{Settings, has_flag}
+use Rattle.tty_modes.specs.Word.{after_word}
 use Rattle.line_store.specs.Unread.{read_size, first_piece, bytes_of}
-use Rattle.flow_control.specs.Output.{Output, without_room, after_send}
+use Rattle.flow_control.specs.Output.{Output, without_room, after_send, after_start}
 use Rattle.flow_control.specs.declared.tally.Tally.{Tally}
-use Rattle.flow_control.proofs.RoomLemmas.{after_send-room}
-use Rattle.n_tty.specs.States.{NTtyState, OnPort, on_port, is_accepting}
+use Rattle.flow_control.proofs.RoomLemmas.{without_room-if, after_send-room, after_start-room}
+use Rattle.n_tty.specs.States.{NTtyState, OnPort, on_port, is_accepting, unread_count, has_piece}
 use Rattle.n_tty.specs.Room.{port_without_room}
 use Rattle.n_tty.specs.Receiving.{after_character}
-use Rattle.n_tty.specs.Reading.{bytes_read}
+use Rattle.n_tty.specs.Reading.{bytes_read, after_read}
+use Rattle.n_tty.specs.Storing.{after_recast}
+use Rattle.n_tty.specs.Flow.{after_ixoff_rule}
 use Rattle.n_tty.specs.Writing.{piece_size, piece_text, after_write}
 use Rattle.n_tty.proofs.WithoutRoom.{after_character-room, piece_size-room, piece_text-room, after_write-room}
+use Rattle.n_tty.proofs.WithoutRoom.{after_ixoff_rule-room}
 use Rattle.tty_embed.proofs.Accepting.{after_accepted-room, accepted_count-room}
 use Rattle.tty_embed.specs.Embedded.{Embedded, good, offered, with_column_in_32_bits, accepts, after_receipt}
 use Rattle.tty_embed.specs.Embedded.{after_accepted, accepted_count, after_receiving, received_count, after_writing}
+use Rattle.tty_embed.specs.Embedded.{with_rule, output_under, after_setting, asked_count, is_ready_for, bytes_given}
+use Rattle.tty_embed.specs.Embedded.{read_answer, at_front, place_after_read, after_reading}
 
 -- a terminal of these fields
 abbrev pub of_fields : Settings → (tick : ℕ) → NTtyState → Output → Tally → Embedded
 of_fields modes tick tty wire tally =
     record { port = port_without_room (on_port tty wire tally); modes = modes; tick = tick }
 
-then_is : (test : Bool) (x y : Embedded) → test ≡ true → (if test then x else y) ≡ x
+then_is : {A : Type 0} (test : Bool) (x y : A) → test ≡ true → (if test then x else y) ≡ x
 then_is test x y e = ap (λ (b : Bool). if b then x else y) e
 
 -- a port on which room was reserved is the same without room
@@ -137,3 +144,80 @@ length-bytes_read modes n tty =
     few_of_either (has_flag modes ICANON) n (take (read_size n) (first_piece tty.items))
     (take (read_size n) (bytes_of tty.items))
     (few_taken n (first_piece tty.items)) (few_taken n (bytes_of tty.items))
+
+-- how many bytes a read gives
+pub read_counted : (modes : Settings) (tick : ℕ) (nonblock : Bool) (since n asked count : ℕ) (tty : NTtyState)
+    (wire : Output) (tally : Tally)
+    → is_ready_for (of_fields modes tick tty wire tally) nonblock since n ≡ true
+    → asked ≡ min n MOST_READ
+    → count ≡ length (bytes_read modes asked tty)
+    → Some count ≡ read_answer (of_fields modes tick tty wire tally) nonblock since n
+read_counted modes tick nonblock since n asked count tty wire tally ready asks is =
+    let t = of_fields modes tick tty wire tally in
+    ap (λ (k : ℕ). Some k) (is ∙ ap (λ (k : ℕ). length (bytes_read modes k tty)) asks)
+    ∙ sym (then_is (is_ready_for t nonblock since n) (Some (length (bytes_given t n))) None ready)
+
+-- the place into which it was read
+pub read_placed : (modes : Settings) (tick : ℕ) (nonblock : Bool) (since asked : ℕ) (tty : NTtyState)
+    (wire : Output) (tally : Tally) (place front now : List ℕ)
+    → is_ready_for (of_fields modes tick tty wire tally) nonblock since (length place) ≡ true
+    → asked ≡ min (length place) MOST_READ
+    → front ≡ bytes_read modes asked tty
+    → now ≡ front ++ drop (length front) place
+    → now ≡ place_after_read (of_fields modes tick tty wire tally) nonblock since place
+read_placed modes tick nonblock since asked tty wire tally place front now ready asks is put =
+    let t = of_fields modes tick tty wire tally in
+    put
+    ∙ (ap (λ (xs : List ℕ). at_front place xs) (is ∙ ap (λ (k : ℕ). bytes_read modes k tty) asks)
+    ∙ sym (then_is (is_ready_for t nonblock since (length place)) (at_front place (bytes_given t (length place))) place
+    ready))
+
+-- the rule for ixoff, on output for which room was reserved
+ruled : (modes : Settings) (tty : NTtyState) (bare more wrote : Output)
+    → without_room more ≡ bare
+    → wrote ≡ after_ixoff_rule modes (unread_count tty) (has_piece tty) more
+    → without_room wrote ≡ after_ixoff_rule modes (unread_count tty) (has_piece tty) bare
+ruled modes tty bare more wrote same rule =
+    ap without_room rule
+    ∙ (after_ixoff_rule-room modes (unread_count tty) (has_piece tty) more
+    ∙ ap (λ (o : Output). after_ixoff_rule modes (unread_count tty) (has_piece tty) o) same)
+
+-- a read, with room that was reserved for the rule for ixoff, is one without room
+pub reading_made : (modes : Settings) (tick : ℕ) (nonblock : Bool) (since n asked : ℕ) (tty now : NTtyState)
+    (wire more wrote : Output) (tally : Tally)
+    → is_ready_for (of_fields modes tick tty wire tally) nonblock since n ≡ true
+    → asked ≡ min n MOST_READ
+    → more ≡ record wire { spare = more.spare }
+    → now ≡ after_read modes asked tty
+    → wrote ≡ after_ixoff_rule modes (unread_count now) (has_piece now) more
+    → of_fields modes tick now wrote tally ≡ after_reading (of_fields modes tick tty wire tally) nonblock since n
+reading_made modes tick nonblock since n asked tty now wire more wrote tally ready asks same read rule =
+    let t = of_fields modes tick tty wire tally in
+    let step = λ (s : NTtyState). record t { port = with_rule modes (record t.port { tty = s }) } in
+    let sent = ruled modes now (without_room wire) more wrote (ap without_room same) rule in
+    (λ i. record t { port = record t.port { tty = now; output = sent i } })
+    ∙ (ap step (read ∙ ap (λ (k : ℕ). after_read modes k tty) asks)
+    ∙ sym (then_is (is_ready_for t nonblock since n) (step (after_read modes (asked_count n) tty)) t ready))
+
+-- other modes, with room that was reserved for what they send, are set without room
+pub setting_made : (modes new : Settings) (tick : ℕ) (word : Word) (applies : Bool) (tty now : NTtyState)
+    (wire more started wrote : Output) (tally : Tally)
+    → new ≡ after_word modes word
+    → applies ≡ (has_flag modes IXON && not (has_flag new IXON))
+    → more ≡ record wire { spare = more.spare }
+    → now ≡ after_recast modes new tty
+    → started ≡ (if applies then after_start more else more)
+    → wrote ≡ after_ixoff_rule new (unread_count now) (has_piece now) started
+    → of_fields new tick now wrote tally ≡ after_setting (of_fields modes tick tty wire tally) (Some word)
+setting_made modes new tick word applies tty now wire more started wrote tally made applied same recast start rule =
+    let t = of_fields modes tick tty wire tally in
+    let bare = ap without_room same in
+    let resumed : without_room started ≡ output_under modes new (without_room wire) =
+    ap without_room start
+    ∙ (without_room-if applies _ _ _ _ (after_start-room more ∙ ap after_start bare) bare
+    ∙ ap (λ (b : Bool). if b then after_start (without_room wire) else without_room wire) applied) in
+    let sent = ruled new now (output_under modes new (without_room wire)) started wrote resumed rule in
+    let step = λ (m : Settings) (s : NTtyState).
+    record t { modes = m; port = with_rule m (record t.port { tty = s; output = output_under modes m t.port.output }) } in
+    (λ i. record t { modes = new; port = record t.port { tty = now; output = sent i } })
+    ∙ (ap (step new) recast ∙ ap (λ (m : Settings). step m (after_recast modes m tty)) made)

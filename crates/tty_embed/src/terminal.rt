@@ -141,7 +141,7 @@ impl Tty {
         ensures err { OnErr result ((self.new ≡ self.old) × (place.new ≡ place.old)) }
     {
         if !self.ready(nonblock, since, place.len()) {
-            return Ok(None);
+            return Ok(None); // the read waits
         }
         let asked = place.len().min(MOST_READ);
         make_room(&mut self.bytes, self.alloc, asked)?;

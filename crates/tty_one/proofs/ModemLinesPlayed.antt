@@ -7,7 +7,7 @@ use Rattle.tty_calls.specs.declared.answers.PortEnd.{PortEnd}
 use Rattle.tty_calls.specs.declared.journals.PortRun.{PortRun}
 use Rattle.tty_calls.specs.Sessions.{PlainSession, session_of}
 use Rattle.session_print.specs.Ends.{end_of}
-use Rattle.one_order.specs.Order.{AllSeeAll}
+use Rattle.legal_runs.specs.Order.{AllSeeAll}
 use Rattle.play_base.specs.Played.{ArePlayed}
 use Rattle.passed_calls.specs.Within.{ArePassedWithin}
 use Rattle.modem_text.specs.declared.sessions.ModemSession.{ModemSession as KeptSession}
@@ -29,7 +29,7 @@ use Rattle.tty_one.specs.Works.{brought, AreModemLinesRead, AreModemLinesWork, C
 use Rattle.tty_one.specs.Works.{IsNeverFull, IsReportOfModemLines}
 use Rattle.tty_one.proofs.ModemLinesRoom.{can_modem_lines_be_played}
 use Rattle.tty_one.proofs.PortLemmas.{each_whole, there_too}
-use Rattle.passed_laws.specs.Sessions.{AreNotFull}
+use Rattle.order_laws.specs.Sessions.{AreNotFull}
 
 -- ---- a session
 

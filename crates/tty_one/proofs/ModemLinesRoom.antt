@@ -27,7 +27,7 @@ use Rattle.further_asked.proofs.Passing.{asks_no_more}
 use Rattle.tty_one.specs.ModemLines.{SpellsModemLines, given_to}
 use Rattle.tty_one.specs.Works.{CanModemLinesBePlayed}
 use Rattle.tty_one.proofs.Roomy.{never_full_within}
-use Rattle.passed_laws.specs.Sessions.{journal_on}
+use Rattle.order_laws.specs.Sessions.{journal_on}
 
 -- ---- what the ports have begun asks no more than the calls of their callers
 

@@ -34,7 +34,7 @@ use Rattle.tty_one.proofs.Bared.{kept_bare}
 use Rattle.tty_one.proofs.PortLemmas.{each_whole, there_too}
 use Rattle.tty_one.proofs.ProcessesRoom.{spelled_kept}
 use Rattle.tty_one.proofs.Refused.{line_from}
-use Rattle.passed_laws.specs.Sessions.{AreNotFull}
+use Rattle.order_laws.specs.Sessions.{AreNotFull}
 
 -- ---- a session
 

@@ -29,7 +29,7 @@ use Rattle.tty_one.specs.Processes.{bare_of, given_to}
 use Rattle.tty_one.specs.Works.{CanProcessesBePlayed}
 use Rattle.tty_one.proofs.Bared.{kept_bare, within_kept}
 use Rattle.tty_one.proofs.Roomy.{never_full_within}
-use Rattle.passed_laws.specs.Sessions.{journal_on}
+use Rattle.order_laws.specs.Sessions.{journal_on}
 
 -- ---- what the ports have begun asks no more than the calls of their callers
 

@@ -13,7 +13,7 @@ use Rattle.modem_one.specs.Played.{begun_in, port_in, IsLoggedWhole}
 use Rattle.further_report.specs.Modem.{modem_report_text}
 use Rattle.tty_one.specs.Endings.{IsStatusOr}
 use Rattle.tty_one.specs.Reported.{Returned, IsToldAs, IsAllOf}
-use Rattle.passed_laws.specs.Sessions.{journal_on}
+use Rattle.order_laws.specs.Sessions.{journal_on}
 
 -- a text spells a session of ports with modem lines; the first wrong line of a text that spells none
 abbrev pub SpellsModemLines : List ℕ → ModemSession → Type 0

@@ -15,7 +15,7 @@ use Rattle.job_one.specs.Played.{begun_in, port_in, IsLoggedWhole}
 use Rattle.further_report.specs.Jobs.{jobs_report_text}
 use Rattle.tty_one.specs.Endings.{IsStatusOr}
 use Rattle.tty_one.specs.Reported.{Returned, IsOrdered, IsToldAs, IsAllOf}
-use Rattle.passed_laws.specs.Sessions.{journal_on}
+use Rattle.order_laws.specs.Sessions.{journal_on}
 
 -- nothing is said of the room behind the names of processes
 abbrev pub bare_proc : Proc → Proc

@@ -8,7 +8,7 @@ use Rattle.session_print.specs.Ends.{PlainEnd}
 use Rattle.session_print.specs.Report.{play_text}
 use Rattle.session_print.specs.Summary.{summary_text}
 use Rattle.legal_runs.specs.Legal.{IsLegal}
-use Rattle.one_order.specs.Order.{IsInOneOrder}
+use Rattle.legal_runs.specs.Order.{IsInOneOrder}
 use Rattle.passed_calls.specs.declared.logs.Logged.{Logged}
 use Rattle.modem_text.specs.declared.logs.ModemEvent.{ModemEvent}
 use Rattle.job_text.specs.declared.logs.JobEvent.{JobEvent}

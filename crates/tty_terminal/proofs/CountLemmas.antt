@@ -1,7 +1,9 @@
 -- Counts of callers, as one of them or each changes.
-use Rattle.std.proofs.Common.{◌≡◌, ℕ, List, [], ◌∷◌, Bool, true, false, Option, None, Some, map, cond, refl, ap, arith}
+use Rattle.std.proofs.Common.{◌≡◌, ◌+◌, ◌-◌, ◌<◌, ◌≤◌, ℕ, zero, suc, List, [], ◌∷◌, Bool, true, false}
+use Rattle.std.proofs.Common.{Option, None, Some, length, map, set, get_or, cond, refl, ap, arith}
+use mir.Val.{bool_byte}
 use Rattle.std.specs.Prelude.{count_by}
-use Rattle.std.proofs.lemmas.List.Sums.{sum_by-cons}
+use Rattle.std.proofs.lemmas.List.Sums.{sum_by-cons, sum_by-set}
 use Rattle.tty_terminal.specs.declared.callers.Bound.{Bound}
 use Rattle.tty_terminal.specs.declared.callers.CallerState.{CallerState}
 use Rattle.tty_terminal.specs.Terminals.{is_bound, has_begun}
@@ -10,6 +12,49 @@ use Rattle.tty_terminal.specs.Generations.{bound_after_hangup, caller_after_hang
 
 abbrev one_of : Bool → ℕ
 one_of b = cond b 1 0
+
+one_is : (b : Bool) → one_of b ≡ bool_byte b
+one_is true = refl
+one_is false = refl
+
+counted_there : (p : CallerState → Bool) (cs : List CallerState) (i : ℕ) (s : CallerState)
+    → i < length cs
+    → s ≡ get_or cs i s
+    → bool_byte (p s) ≤ count_by p cs
+counted_there p [] i s lt is = absurd (omega arith)
+counted_there p (x ∷ xs) zero s lt is =
+    omega (arith, sum_by-cons (λ y. one_of (p y)) x xs, one_is (p x), ap (λ y. bool_byte (p y)) is)
+counted_there p (x ∷ xs) (suc i) s lt is =
+    omega (arith, sum_by-cons (λ y. one_of (p y)) x xs, counted_there p xs i s (omega arith) is)
+
+-- the caller at a place, where it counts, is one of those that are counted
+pub counted : (p : CallerState → Bool) (cs : List CallerState) (i : ℕ) (s : CallerState) (k n : ℕ)
+    → i < length cs
+    → s ≡ get_or cs i s
+    → k ≡ bool_byte (p s)
+    → n ≡ count_by p cs
+    → k ≤ n
+counted p cs i s k n lt is one all = omega (arith, one, all, counted_there p cs i s lt is)
+
+-- how many are counted where another stands at its place
+pub counted_anew : (p : CallerState → Bool) (cs : List CallerState) (i : ℕ) (s t : CallerState) (k m n : ℕ)
+    → i < length cs
+    → s ≡ get_or cs i s
+    → k ≡ bool_byte (p s)
+    → m ≡ bool_byte (p t)
+    → n ≡ count_by p cs
+    → n - k + m ≡ count_by p (set cs i t)
+counted_anew p cs i s t k m n lt is one other all = omega (
+  arith,
+  one,
+  other,
+  all,
+  counted_there p cs i s lt is,
+  sum_by-set (λ y. one_of (p y)) cs i t s lt,
+  one_is (p t),
+  one_is (p (get_or cs i s)),
+  ap (λ y. bool_byte (p y)) is,
+)
 
 one_if : (b : Bool) → one_of b ≡ 0 → b ≡ false
 one_if true h = cc

@@ -7,8 +7,8 @@ use Rattle.tty_calls.specs.Plain.{PlainCall}
 use Rattle.tty_calls.specs.Sessions.{PlainSession, call_at}
 use Rattle.tty_terminal.specs.Terminals.{Terminal}
 use Rattle.tty_terminal.specs.Steps.{nothing_to_flush}
-use Rattle.one_order.specs.Order.{Place, due, callers_of, can_go_on, is_waiting, first_of, turn_by_rank, turn_after}
-use Rattle.one_order.specs.Order.{turn}
+use Rattle.legal_runs.specs.Order.{Place, due, callers_of, can_go_on, is_waiting, first_of, turn_by_rank, turn_after}
+use Rattle.legal_runs.specs.Order.{turn}
 use Rattle.vt_consoles.specs.declared.entries.VtEntry.{VtEntry}
 use Rattle.vt_text.specs.Sessions.{PlainVtSession}
 use Rattle.vt_account.specs.Keyed.{keyed}

@@ -6,7 +6,7 @@ use Rattle.tty_calls.specs.Plain.{PlainCall}
 use Rattle.tty_calls.specs.Sessions.{PlainSession, call_at}
 use Rattle.tty_terminal.specs.Terminals.{Terminal}
 use Rattle.tty_terminal.specs.Steps.{nothing_to_flush}
-use Rattle.one_order.specs.Order.{Place, due, callers_of, can_go_on, is_waiting, first_of, turn_after}
+use Rattle.legal_runs.specs.Order.{Place, due, callers_of, can_go_on, is_waiting, first_of, turn_after}
 
 -- Behind the last key of a phase: a flush, the end of the clock, the first caller that can go on, the first that waits,
 -- which is told that it waits in vain, and the end of the phase.

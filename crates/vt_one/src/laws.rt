@@ -1,7 +1,7 @@
 //! What follows from the definitions alone.
 
 ghost use Rattle.std.specs.Prelude.{◌≡◌, ℕ, List};
-ghost use Rattle.one_order.specs.Order.{Place, turn};
+ghost use Rattle.legal_runs.specs.Order.{Place, turn};
 ghost use Rattle.vt_consoles.specs.declared.entries.VtEntry.{VtEntry};
 ghost use Rattle.vt_text.specs.Sessions.{PlainVtSession};
 ghost use Rattle.vt_account.specs.Keyed.{keyed};

@@ -8,7 +8,7 @@ use Rattle.tty_calls.specs.Sessions.{PlainPhase, PlainScript, PlainSession, call
 use Rattle.tty_calls.specs.Sessions.{counts_on, names_of, number_in, scripts_on, scripts_over, ticks_on}
 use Rattle.tty_terminal.specs.Steps.{callers_in}
 use Rattle.legal_runs.specs.Legal.{first_step, has_script, name_at, phase_at, steps_in}
-use Rattle.one_order.specs.Order.{callers_of}
+use Rattle.legal_runs.specs.Order.{callers_of}
 use Rattle.play_base.specs.Roles.{PlainRole, AreFirstSteps, AreRolesOf, IsRoleOf, names_in}
 use Rattle.vt_consoles.specs.declared.entries.VtEntry.{VtEntry}
 use Rattle.vt_text.specs.Sessions.{PlainVtPhase, PlainVtSession}

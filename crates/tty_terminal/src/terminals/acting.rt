@@ -294,7 +294,7 @@ impl Terminal {
             }
             When::Flush => {
                 if self.wire.held() > 0 {
-                    return Met::Waits;
+                    return Met::Waits; // and so do the words
                 }
                 self.drop_input();
             }

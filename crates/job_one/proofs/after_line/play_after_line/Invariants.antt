@@ -1,5 +1,5 @@
 use Rattle.job_one.specs.Frames.{IsNextTurn}
-use Rattle.passed_laws.specs.Left.{turns_left}
+use Rattle.order_laws.specs.Left.{turns_left}
 use Rattle.job_one.specs.Taken.{IsBetweenTurns}
 use Rattle.job_one.proofs.after_line.play_after_line.Given as goal
 

@@ -2,7 +2,7 @@ use Rattle.std.proofs.Common.{◌<◌, subst}
 use Rattle.std.proofs.lemmas.Result.{IfOk-weaker}
 use Rattle.one_thread.specs.declared.after_line.Turn.{Turn}
 use Rattle.job_one.specs.Frames.{IsNextTurn}
-use Rattle.passed_laws.specs.Left.{turns_left}
+use Rattle.order_laws.specs.Left.{turns_left}
 use Rattle.job_one.specs.Taken.{IsBetweenTurns, TakesNoCall}
 use Rattle.job_one.proofs.LeftCalls.{between_turn, less_turn}
 use Rattle.job_one.proofs.after_line.play_turn.Goals as goal

@@ -1,4 +1,4 @@
-use Rattle.passed_laws.proofs.BegunBefore.{begun_elsewhere, begun_by_none}
+use Rattle.order_laws.proofs.BegunBefore.{begun_elsewhere, begun_by_none}
 use Rattle.job_one.proofs.desk_laws.calls_begin_by_their_entries.Goals as goal
 
 pub returns : goal.returns

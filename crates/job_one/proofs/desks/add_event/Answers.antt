@@ -1,4 +1,4 @@
-use Rattle.passed_laws.proofs.Owned.{one_more_on, same_on}
+use Rattle.order_laws.proofs.Owned.{one_more_on, same_on}
 use Rattle.job_one.proofs.desks.add_event.Goals as goal
 use Rattle.job_text.specs.Events.{logged_of}
 

@@ -13,7 +13,7 @@ use Rattle.job_ports.proofs.Bounded.{plain_within}
 use Rattle.job_ports.proofs.Derived.{derived_are, passings_are, scripts_on_ports}
 use Rattle.job_ports.proofs.passing.derive_session.Goals as goal
 use Rattle.job_ports.proofs.passing.derive_session.Goals.{After-as_slice-3}
-use Rattle.passed_laws.specs.Sessions.{journal_on}
+use Rattle.order_laws.specs.Sessions.{journal_on}
 use Rattle.passed_ports.proofs.Joining.{single_still}
 
 abbrev Placed : Type 0

@@ -9,7 +9,7 @@ use Rattle.play_base.specs.Casting.{AreNumbered, HaveSameCallers, cast_of}
 use Rattle.play_base.specs.Roles.{scene_of, role_in}
 use Rattle.play_base.specs.declared.roles.Role.{Role}
 use Rattle.job_text.specs.Sessions.{jobs_session_of, own_of}
-use Rattle.passed_laws.specs.Filled.{AreNextSteps}
+use Rattle.order_laws.specs.Filled.{AreNextSteps}
 use Rattle.job_ports.specs.declared.phases.JobStation.{JobStation}
 use Rattle.job_ports.specs.Between.{BeginsPhase, IsBetween}
 use Rattle.job_ports.proofs.Beginning.{base_within, begins_phase, names_few, numbered_in, steps_known}

@@ -7,7 +7,7 @@ use Rattle.job_text.specs.Sessions.{jobs_session_of}
 use Rattle.job_one.specs.Played.{AreJobsPlayed, derived_with, all_passed}
 use Rattle.job_ports.proofs.Joining.{all_played, all_within}
 use Rattle.job_ports.proofs.running.jobs_run.Goals as goal
-use Rattle.passed_laws.specs.Sessions.{journal_on}
+use Rattle.order_laws.specs.Sessions.{journal_on}
 
 pub derive_session-requires-clause-passed : goal.derive_session-requires-clause-passed
 derive_session-requires-clause-passed c =

@@ -1,9 +1,10 @@
-use Rattle.std.proofs.Common.{List, sum, arith}
+use Rattle.std.proofs.Common.{◌≡◌, ℕ, List, sum, arith, subst}
 use Rattle.port_cell.specs.declared.kept.Stamped.{Stamped}
 use Rattle.port_cell.specs.Knowledge.{list_seen}
 use Rattle.tty_port.specs.Inside.{EntryWithCall}
 use Rattle.tty_port.specs.Seen.{marks_at}
 use Rattle.tty_port.specs.Shared.{name_of_port}
+use Rattle.many_threads.specs.Parts.{MakesTicks}
 use Rattle.many_threads.proofs.PartLemmas.{clock_goes_on, tick_more}
 use Rattle.many_threads.proofs.clock_part.make_ticks.Goals as goal
 
@@ -20,3 +21,8 @@ loop-preserved g c =
       makes = tick_more name.callers (sum name.counts) phase c.loop.seat c.tick.new.seat c.loop.invariant.seat.number
           c.tick.ensures.placed one c.loop.counter (list_seen c.args.seat.now) c.loop.invariant.makes;
     }
+
+pub returns-clause-ok : goal.returns-clause-ok
+returns-clause-ok g c =
+    let all : c.loop.counter ≡ c.args.ticks = omega arith in
+    subst (λ (n : ℕ). MakesTicks n (list_seen c.args.seat.now) c.loop.seat) all c.loop.invariant.makes

@@ -1,4 +1,5 @@
-use Rattle.std.proofs.Common.{◌+◌, ◌≤◌, length, subst, sym}
+use Rattle.std.proofs.Common.{arith, ◌+◌, ◌≤◌, length, subst, sym}
+use Rattle.std.proofs.lemmas.Grind.{common_steps}
 use Rattle.port_cell.specs.Knowledge.{list_seen}
 use Rattle.tty_port.specs.Seen.{marks_at}
 use Rattle.tty_port.specs.Shared.{name_of_port}
@@ -24,3 +25,6 @@ returns-clause-ok g c =
     c.line_end.new.seat c.requires.seat.number c.send.ensures.runs
     (subst (λ (s : PortSeat). MakesOne (EndsLine n c.send.new.putter c.line_end.new.putter) s c.line_end.new.seat)
     c.send.ensures.seat one)) c.line_end.ensures.ok
+
+pub returns-clause-err : goal.returns-clause-err
+returns-clause-err g c = grind (arith, common_steps) steps 1000000

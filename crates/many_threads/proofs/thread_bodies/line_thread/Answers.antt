@@ -1,3 +1,4 @@
+use Rattle.std.proofs.Common.{rules}
 use Rattle.many_threads.proofs.thread_bodies.line_thread.Goals as goal
 
 pub play_line-result-requires-clause-seat : goal.play_line-result-requires-clause-seat
@@ -23,3 +24,6 @@ play_line-result-requires-clause-room g c = c.requires.can.room
 
 pub play_line-result-requires-clause-put : goal.play_line-result-requires-clause-put
 play_line-result-requires-clause-put g c = c.requires.can.put
+
+pub returns-then-is_err : goal.returns-then-is_err
+returns-then-is_err g c = search rules steps 100000

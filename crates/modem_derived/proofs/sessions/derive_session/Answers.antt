@@ -13,7 +13,7 @@ use Rattle.modem_derived.proofs.Derived.{derived_are, passings_are}
 use Rattle.modem_derived.proofs.Listed.{on_ports, scripts_on_ports}
 use Rattle.modem_derived.proofs.sessions.derive_session.Goals as goal
 use Rattle.modem_derived.proofs.sessions.derive_session.Goals.{After-as_slice-4}
-use Rattle.passed_laws.specs.Sessions.{journal_on}
+use Rattle.order_laws.specs.Sessions.{journal_on}
 use Rattle.passed_ports.proofs.Joining.{single_still}
 
 pub derive-requires-clause-scripts : goal.derive-requires-clause-scripts

@@ -1,4 +1,4 @@
-use Rattle.std.proofs.Common.{[], sym, ◌∙◌}
+use Rattle.std.proofs.Common.{rules, [], sym, ◌∙◌}
 use Rattle.one_thread.specs.Turns.{role_numbers}
 use Rattle.modem_one.specs.Desk.{state_at}
 use Rattle.modem_one.specs.Turns.{port_now}
@@ -26,3 +26,6 @@ returns-in-None-first_of-clause-turn g c =
     (sym c.clock_is_over.ensures ∙ c.if-not-clock_is_over.false) c.first_of.ensures c.in-None.is
     c.first_of-in-None.ensures
     c.in-None-first_of.is
+
+pub returns-then-not-clock_is_over-clause-turn : goal.returns-then-not-clock_is_over-clause-turn
+returns-then-not-clock_is_over-clause-turn g c = search rules steps 300000

@@ -11,7 +11,7 @@ use Rattle.play_base.specs.declared.roles.Role.{Role}
 use Rattle.calls_left.specs.Remaining.{calls_of_port}
 use Rattle.modem_text.specs.declared.sessions.ModemPart.{ModemPart}
 use Rattle.modem_text.specs.Sessions.{modem_session_of, step_of}
-use Rattle.passed_laws.specs.Filled.{AreNextSteps}
+use Rattle.order_laws.specs.Filled.{AreNextSteps}
 use Rattle.modem_ports.specs.declared.phases.ModemStation.{ModemStation}
 use Rattle.modem_derived.specs.Blocks.{items_of_port, own_of, pins_of}
 use Rattle.modem_ports.specs.Between.{BeginsPhase, IsBetween}

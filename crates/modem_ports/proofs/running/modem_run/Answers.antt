@@ -7,7 +7,7 @@ use Rattle.modem_text.specs.Sessions.{modem_session_of}
 use Rattle.modem_one.specs.Played.{AreModemsPlayed, derived_with, all_passed}
 use Rattle.modem_ports.proofs.Joining.{all_played, all_within}
 use Rattle.modem_ports.proofs.running.modem_run.Goals as goal
-use Rattle.passed_laws.specs.Sessions.{journal_on}
+use Rattle.order_laws.specs.Sessions.{journal_on}
 
 pub derive_session-requires-clause-passed : goal.derive_session-requires-clause-passed
 derive_session-requires-clause-passed c =

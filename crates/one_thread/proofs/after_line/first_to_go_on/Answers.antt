@@ -1,6 +1,6 @@
 use Rattle.std.proofs.Common.{refl, ◌∙◌, sym, arith}
 use Rattle.port_core.specs.Ports.{call_in}
-use Rattle.one_order.specs.Order.{can_go_on}
+use Rattle.legal_runs.specs.Order.{can_go_on}
 use Rattle.one_thread.proofs.Ranks.{found_at, not_at, none_at}
 use Rattle.one_thread.proofs.after_line.first_to_go_on.Goals as goal
 

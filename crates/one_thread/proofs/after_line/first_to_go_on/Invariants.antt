@@ -1,7 +1,7 @@
 use Rattle.std.proofs.Common.{◌≡◌, drop}
 use Rattle.tty_calls.specs.declared.journals.Who.{Who}
 use Rattle.port_core.specs.Ports.{call_in}
-use Rattle.one_order.specs.Order.{first_of, can_go_on}
+use Rattle.legal_runs.specs.Order.{first_of, can_go_on}
 use Rattle.one_thread.specs.Turns.{role_numbers}
 use Rattle.one_thread.proofs.after_line.first_to_go_on.Given as goal
 

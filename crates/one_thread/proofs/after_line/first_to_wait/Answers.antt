@@ -1,6 +1,6 @@
 use Rattle.std.proofs.Common.{refl, sym, ap, ◌∙◌, is_some, arith}
 use Rattle.tty_terminal.specs.declared.callers.CallerState.{CallerState}
-use Rattle.one_order.specs.Order.{is_waiting}
+use Rattle.legal_runs.specs.Order.{is_waiting}
 use Rattle.one_thread.proofs.Ranks.{found_at, not_at, none_at}
 use Rattle.one_thread.proofs.after_line.first_to_wait.Goals as goal
 

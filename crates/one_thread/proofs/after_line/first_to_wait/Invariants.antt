@@ -1,6 +1,6 @@
 use Rattle.std.proofs.Common.{◌≡◌, drop}
 use Rattle.tty_calls.specs.declared.journals.Who.{Who}
-use Rattle.one_order.specs.Order.{first_of, is_waiting}
+use Rattle.legal_runs.specs.Order.{first_of, is_waiting}
 use Rattle.one_thread.specs.Turns.{role_numbers}
 use Rattle.one_thread.proofs.after_line.first_to_wait.Given as goal
 

@@ -1,6 +1,6 @@
 use Rattle.std.proofs.lemmas.Result.{IfOk-weaker}
 use Rattle.tty_calls.specs.Plain.{call_of}
-use Rattle.one_order.specs.Order.{is_of_consoles}
+use Rattle.legal_runs.specs.Order.{is_of_consoles}
 use Rattle.one_thread.specs.Turns.{role_numbers, PlaysOn}
 use Rattle.one_thread.specs.Acts.{PlaysLast}
 use Rattle.one_thread.specs.declared.after_line.Turn.TheVariants as turn

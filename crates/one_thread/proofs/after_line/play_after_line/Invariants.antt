@@ -1,6 +1,6 @@
 use Rattle.std.proofs.Common.{◌-◌, length}
 use Rattle.tty_base.specs.Sizes.{MOST_ENTRIES}
-use Rattle.one_order.specs.Order.{is_of_consoles}
+use Rattle.legal_runs.specs.Order.{is_of_consoles}
 use Rattle.one_thread.specs.Turns.{role_numbers, IsTurn}
 use Rattle.one_thread.specs.Acts.{Playing}
 use Rattle.one_thread.proofs.after_line.play_after_line.Given as goal

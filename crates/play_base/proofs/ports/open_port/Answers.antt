@@ -1,7 +1,6 @@
 use Rattle.std.proofs.Common.{◌≡◌, ◌≤◌, false, ℕ, List, [], length, ap, subst, sym, ◌∙◌, arith}
-use Rattle.std.specs.Prelude.{slice_index_or, sum}
-use Rattle.std.proofs.lemmas.List.Elements.{All-get_or}
-use Rattle.tty_base.specs.Sizes.{LEAST_FLIP, MOST_ENTRIES}
+use Rattle.std.specs.Prelude.{sum}
+use Rattle.tty_base.specs.Sizes.{MOST_ENTRIES}
 use Rattle.tty_base.specs.declared.characters.Flagged.{Flagged}
 use Rattle.tty_base.specs.declared.lines.Overrun.{Overrun}
 use Rattle.word_ring.specs.Ends.{PutterState, TakerState}
@@ -22,29 +21,25 @@ returns c =
     let s = scene_of c.args.number c.args.session.now in
     let putter : PutterState Flagged = c.in_ok-putter.putter in
     let taker : TakerState Flagged = c.in_ok-putter.taker in
-    let counts : c.as_slice-2.result.now ≡ counts_on c.args.number (session_of c.args.session.now) =
-    c.as_slice-2.ensures.value ∙ c.in_ok-counts.ensures in
+    let counts : c.as_slice.result.now ≡ counts_on c.args.number (session_of c.args.session.now) =
+    c.as_slice.ensures.value ∙ c.in_ok-counts.ensures in
+    let output = ap (λ t. t.capacity) c.in_ok-putter.ensures.output in
     let capacity : taker.capacity ≡ flip_on c.args.number (session_of c.args.session.now) =
-    ap (λ t. t.capacity) c.in_ok-putter.ensures.output
-    ∙ ap (λ (xs : List ℕ). slice_index_or xs c.args.number 0) c.as_slice.ensures in
-    let ports = c.requires.within.flips in
-    let port = c.requires.port in
-    let room : LEAST_FLIP ≤ flip_on c.args.number (session_of c.args.session.now) =
-    All-get_or (λ n. LEAST_FLIP ≤ n) c.args.session.now.flips.items c.args.number 0 (omega (arith, ports, port))
-    c.requires.within.some_flip in
+    output ∙ c.capacity_on-capacity.ensures.is in
     let most : character_count c.args.number (session_of c.args.session.now).phases ≤ c.in_ok-line.line.most =
     omega (arith, c.in_ok-line.ensures.room, c.room_on.ensures.enough) in
     let at_phase : IsAtPhase s 0
     (record {
-      terminal = opening (sum c.as_slice-2.result.now) taker.capacity;
+      terminal = opening (sum c.as_slice.result.now) taker.capacity;
       journal = [];
       kept = [];
-      counts = c.as_slice-2.result.now;
+      counts = c.as_slice.result.now;
       limit = MOST_ENTRIES;
       starved = false;
       flip = taker;
     }) putter c.in_ok-line.line 0 =
-    opened_at s c.as_slice-2.result.now taker putter c.in_ok-line.line counts capacity (omega (arith, room, capacity))
+    opened_at s c.as_slice.result.now taker putter c.in_ok-line.line counts capacity
+    (omega (arith, output, c.capacity_on-capacity.ensures.enough))
     (ap (λ p. p.ring) c.in_ok-putter.ensures.input)
     (ap (λ p. p.capacity) c.in_ok-putter.ensures.input ∙ sym (ap (λ t. t.capacity) c.in_ok-putter.ensures.output))
     (ap (λ p. p.sent) c.in_ok-putter.ensures.input) (ap (λ p. p.heads) c.in_ok-putter.ensures.input)
@@ -52,10 +47,10 @@ returns c =
     c.in_ok-line.ensures.none in
     let new : c.in_ok-new.field-0
     ≡ record {
-      terminal = opening (sum c.as_slice-2.result.now) taker.capacity;
+      terminal = opening (sum c.as_slice.result.now) taker.capacity;
       journal = [];
       kept = [];
-      counts = c.as_slice-2.result.now;
+      counts = c.as_slice.result.now;
       limit = MOST_ENTRIES;
       starved = false;
       flip = taker;

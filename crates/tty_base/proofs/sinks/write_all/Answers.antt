@@ -1,4 +1,5 @@
 use Rattle.std.proofs.Common.{rules, arith}
+use Rattle.std.proofs.lemmas.Grind.{common_steps}
 use Rattle.std.proofs.lemmas.List.{take_rest}
 use Rattle.tty_base.proofs.Told.{written_more}
 use Rattle.tty_base.proofs.sinks.write_all.Goals as goal
@@ -13,3 +14,6 @@ loop-at-preserved g c =
           c.loop-at.at c.in-Ok.count (take_rest c.args.bytes.now c.loop-at.at)
           c.loop-at.invariant.written c.in-Ok.ensures.takes;
     }
+
+pub returns-clause-whole : goal.returns-clause-whole
+returns-clause-whole g c = grind (arith, common_steps) steps 1000000

@@ -1,4 +1,5 @@
 use Rattle.std.proofs.Common.{rules, arith, ◌≡◌, ◌≤◌, ◌++◌, length, take, drop, ap, ◌∙◌, sym, subst, ℕ, List, IfSome}
+use Rattle.std.proofs.lemmas.Grind.{common_steps}
 use Rattle.tty_base.specs.declared.sources.TakeFault.TheVariants.{TooLong}
 use Rattle.tty_base.proofs.Told.{IsReadOf, read_front, read_whole, length_more, rest_of_all, no_more_than, Ok≢Err}
 use Rattle.tty_base.proofs.sources.read_all.Goals as goal
@@ -43,3 +44,9 @@ returns-then-count-eq0-clause-too_long g c =
 pub returns-then-count-eq0-clause-rest : goal.returns-then-count-eq0-clause-rest
 returns-then-count-eq0-clause-rest g c = rest_of_all (g.S.Source.left c.args.source.now)
     (g.S.Source.left c.read.new.self) c.reserve.new.self.items (returns-then-count-eq0-clause-whole g c)
+
+pub returns-then-count-room-clause-too_long : goal.returns-then-count-room-clause-too_long
+returns-then-count-room-clause-too_long g c = grind (arith, common_steps) steps 2000000
+
+pub loop-most-smaller : goal.loop-most-smaller
+loop-most-smaller g c = grind (arith, common_steps) steps 500000

@@ -1,4 +1,4 @@
-use Rattle.std.proofs.Common.{◌≡◌, ◌≤◌, ◌<◌, ◌^◌, refl, sym, ap, subst, arith}
+use Rattle.std.proofs.Common.{rules, ◌≡◌, ◌≤◌, ◌<◌, ◌^◌, refl, sym, ap, subst, arith}
 use Rattle.tty_device.specs.Inside.{line_of}
 use Rattle.tty_device.specs.Lines.{PutEnd}
 use Rattle.tty_device.proofs.TakingIn.{puts_from, puts_all, handed_straight}
@@ -28,3 +28,6 @@ returns-then-is_clear c =
           received.ensures.chars received.ensures.accepted received.ensures.left received.ensures.stops;
       seen = omega (arith, c.give.ensures.shown);
     }
+
+pub returns : goal.returns
+returns c = search rules steps 1000000

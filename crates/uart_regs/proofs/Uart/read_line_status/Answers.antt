@@ -1,3 +1,4 @@
+use Rattle.std.proofs.Common.{rules}
 use Rattle.uart_regs.proofs.StatusLemmas.{IsFifo, cleared_front}
 use Rattle.uart_regs.proofs.Uart.read_line_status.Goals as goal
 
@@ -13,3 +14,6 @@ invariant_of-self c =
       some_trigger = i.some_trigger;
       low_trigger = i.low_trigger;
     }
+
+pub returns-clause-after : goal.returns-clause-after
+returns-clause-after c = search rules steps 300000

@@ -1,4 +1,4 @@
-use Rattle.std.proofs.Common.{arith}
+use Rattle.std.proofs.Common.{rules, arith}
 use Rattle.uart_regs.proofs.StatusLemmas.{IsFifo, rest_of}
 use Rattle.uart_regs.proofs.Uart.read_offset_0.Goals as goal
 
@@ -14,3 +14,12 @@ invariant_of-self-2 c =
       some_trigger = i.some_trigger;
       low_trigger = i.low_trigger;
     }
+
+pub returns-then-selects_latches-clause-value : goal.returns-then-selects_latches-clause-value
+returns-then-selects_latches-clause-value c = search rules steps 100000
+
+pub returns-then-is_empty-clause-after : goal.returns-then-is_empty-clause-after
+returns-then-is_empty-clause-after c = search rules steps 100000
+
+pub returns-clause-after : goal.returns-clause-after
+returns-clause-after c = search rules steps 300000

@@ -1,5 +1,6 @@
-use Rattle.std.proofs.Common.{rules, ◌≡◌, ◌<◌, List, length, sym, subst}
+use Rattle.std.proofs.Common.{rules, arith, ◌≡◌, ◌<◌, List, length, sym, subst}
 use Rattle.std.specs.List.{All}
+use Rattle.std.proofs.lemmas.Grind.{common_steps}
 use Rattle.tty_base.specs.Sizes.{MOST_SENT}
 use Rattle.tty_base.specs.declared.characters.Flagged.{Flagged}
 use Rattle.word_ring.specs.Ends.{PutterState}
@@ -23,3 +24,6 @@ note_at-requires-clause-can g c =
     let lines : c.as_mut_slice-2.result.now ≡ c.args.keyed.now.lines.items = first_of (search rules, cc) in
     rw lines (can_note (name_of_board c.args.board.now).consoles 0 c.args.keyed.now.lines.items
     c.args.keyed.now.ends.items c.in_ok-pressed.pressed.console c.requires.can within)
+
+pub returns-clause-ok : goal.returns-clause-ok
+returns-clause-ok g c = first_of (search rules steps 1000000, grind (arith, common_steps) steps 1000000)

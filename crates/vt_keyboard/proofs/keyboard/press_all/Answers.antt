@@ -61,7 +61,7 @@ loop-place-preserved g c =
           _ c.args.seat.now c.loop-place.seat c.press.new.seat
           c.args.keyed.now.lines.items c.loop-place.keyed.lines.items c.press.new.keyed.lines.items
           c.args.keyed.now.ends.items c.loop-place.keyed.ends.items c.press.new.keyed.ends.items
-          lt (search rules) (omega arith) can c.loop-place.invariant.so_far one;
+          lt (search rules steps 100000) (omega arith) can c.loop-place.invariant.so_far one;
     }
 
 pub returns-clause-seat : goal.returns-clause-seat

@@ -1,4 +1,4 @@
-use Rattle.std.proofs.Common.{◌≡◌, ◌≤◌, List, ℕ, [], ◌++◌, drop, length, ap, sym, ◌∙◌, arith, append-nil}
+use Rattle.std.proofs.Common.{rules, ◌≡◌, ◌≤◌, List, ℕ, [], ◌++◌, drop, length, ap, sym, ◌∙◌, arith, append-nil}
 use Rattle.std.specs.Prelude.{string_bytes}
 use Rattle.std.proofs.lemmas.List.{drop_all}
 use Rattle.vt_print.specs.Consoles.{row_lines}
@@ -14,3 +14,6 @@ returns c =
     sym (append-nil text)
     ∙ ap (λ (l : List (List ℕ)). text ++ row_lines c.args.console r l) (sym none)
     ∙ c.loop-r.invariant
+
+pub loop-r-init : goal.loop-r-init
+loop-r-init c = search rules steps 300000

@@ -1,4 +1,5 @@
-use Rattle.std.proofs.Common.{ap, subst, ℕ, List}
+use Rattle.std.proofs.Common.{arith, ap, subst, ℕ, List}
+use Rattle.std.proofs.lemmas.Grind.{common_steps}
 use mathlib.Core.List.{IsPrefix}
 use Rattle.tty_base.specs.declared.characters.Flagged.{Flagged}
 use Rattle.word_ring.specs.Ends.{AreReleased}
@@ -17,3 +18,6 @@ returns-clause-heads c =
     let released = ap (λ s. s.released) c.self.view_is in
     let heads = ap (λ s. s.heads) c.putter.view_is in
     subst (λ (z : List ℕ × List ℕ). AreReleased z.0 z.1) (λ i. (released i, heads i)) c.finish.ensures.heads
+
+pub returns-clause-sent : goal.returns-clause-sent
+returns-clause-sent c = grind (arith, common_steps) steps 500000

@@ -1,4 +1,5 @@
-use Rattle.std.proofs.Common.{rules, ◌∙◌, map, ap}
+use Rattle.std.proofs.Common.{rules, arith, ◌∙◌, map, ap}
+use Rattle.std.proofs.lemmas.Grind.{common_steps}
 use Rattle.std.proofs.lemmas.List.{length-map}
 use Rattle.tty_base.specs.declared.characters.Flagged.{Flagged}
 use Rattle.word_ring.specs.Ends.{TakerState, with_shown, with_taken}
@@ -18,3 +19,6 @@ returns-clause-moves c =
           ∙ (out_taken (with_shown t tail) m.0
           ∙ ap (λ (u : TakerState Flagged). with_taken (with_shown u tail) (map char_of m.0)) c.self.view_is),
     )
+
+pub returns-clause-count : goal.returns-clause-count
+returns-clause-count c = grind (arith, common_steps) steps 500000

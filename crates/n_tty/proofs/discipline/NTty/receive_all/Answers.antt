@@ -33,3 +33,6 @@ loop-done-preserved c =
       moved = omega (arith, i.moved, made.moved);
       past = λ h. made.past (i.past h);
     }
+
+pub returns-clause-stops : goal.returns-clause-stops
+returns-clause-stops c = λ less. absurd (omega (arith, less, c.loop-done-test.false))

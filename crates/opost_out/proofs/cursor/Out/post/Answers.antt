@@ -1,4 +1,4 @@
-use Rattle.std.proofs.Common.{◌≤◌, ◌∙◌, sym, ap}
+use Rattle.std.proofs.Common.{rules, ◌≤◌, ◌∙◌, sym, ap}
 use Rattle.tty_modes.specs.Settings.{has_flag}
 use Rattle.tty_modes.specs.declared.places.TheConstants.{IUTF8}
 use Rattle.opost_out.specs.Column.{column_after, posted_text, posted_text_under}
@@ -21,3 +21,6 @@ returns-clause-text c = λ text is.
     ∙ (λ i. column_after (c.self.view_is i) (posted_text (c.has.ensures i) (c.as_slice.ensures.bytes i)))
     ∙ ap (λ column. column_after column (posted_text_under c.args.modes.now c.would-piece.result)) is
     ∙ sym (column_after-append 0 text (posted_text_under c.args.modes.now c.would-piece.result))
+
+pub returns-clause-column : goal.returns-clause-column
+returns-clause-column c = search rules steps 300000

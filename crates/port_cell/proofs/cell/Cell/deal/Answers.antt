@@ -41,4 +41,4 @@ returns g c =
     let i = c.seats.invariant in
     let first : IsNew z name list 0 c.seats.first = (search rules, (c.seats.counter, i.first)) in
     let items = c.in_ok-insert.ensures.items in
-    (search rules, subst (λ ss. AllNew z name list 0 ss) (sym items) (first, i.others))
+    (omega (arith, ap length items), subst (λ ss. AllNew z name list 0 ss) (sym items) (first, i.others))

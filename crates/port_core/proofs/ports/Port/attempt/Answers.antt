@@ -86,3 +86,9 @@ returns-clause-generation c =
     where_ok c.answer_idle.result _ _
     (λ x h. raises c.args.self.now c.answer_idle.new.self c.args.caller c.args.step (call_of c.args.call.now)
     (tried_of x) (subst IsPort c.self.view_is c.self.invariant.port) c.requires h) c.answer_idle.ensures.tried
+
+pub returns-then-not-must_wait-clause-tried : goal.returns-then-not-must_wait-clause-tried
+returns-then-not-must_wait-clause-tried c = search rules steps 100000
+
+pub returns-then-not-quiet-clause-tried : goal.returns-then-not-quiet-clause-tried
+returns-then-not-quiet-clause-tried c = search rules steps 1000000

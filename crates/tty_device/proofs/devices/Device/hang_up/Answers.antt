@@ -1,4 +1,4 @@
-use Rattle.std.proofs.Common.{◌≡◌, length, sym, ◌∙◌, ap}
+use Rattle.std.proofs.Common.{rules, ◌≡◌, length, sym, ◌∙◌, ap}
 use Rattle.std.proofs.lemmas.List.{length-map}
 use Rattle.tty_terminal.specs.Terminals.{Terminal}
 use Rattle.tty_terminal.specs.Generations.{caller_after_hangup, after_hangup}
@@ -29,3 +29,6 @@ invariant_of-self c =
       dropped = c.drop_shown.ensures.counted;
       line = line_stays _ _ _ c.drop_shown.ensures.drops.ring c.self.invariant.line;
     }
+
+pub hang_up-requires-clause-fresh : goal.hang_up-requires-clause-fresh
+hang_up-requires-clause-fresh c = search rules steps 100000

@@ -26,7 +26,7 @@ loop-preserved g c =
       next = tt;
       finite = tt;
       seat = c.flush_once.ensures.seat;
-      references = search rules;
+      references = search rules steps 1000000;
       so_far = flush_more name c.args.run c.loop.part c.loop.count c.in-Ok-Took.taken
           c.args.seat.now mid new inv.so_far t refs.word refs.installs;
       piece = subst (λ (w : ℕ). GoesOnAt c.args.run (c.loop.part + 1) (generation_in w) (list_seen new)) (sym refs.word)

@@ -17,5 +17,14 @@ returns-in-Ok-MustWait-clause-none g c =
     let t : Turns c.args.caller c.args.step call (generation_in (last_word old)) old mid must_wait =
     at_ok c.attempt.result c.in-Ok-MustWait.field-0 _ _ c.in-Ok-MustWait.is
     c.in-Ok-MustWait.field-0-is c.attempt.ensures.tried in
-    rests c.args.caller c.args.step call old mid _ (knows_same mid _ (search rules) (search rules))
-    (stepped_on (step_count old) (step_count mid) _ steps (search rules)) t
+    rests c.args.caller c.args.step call old mid _ (knows_same mid _ (search rules steps 1000000) (search rules steps 1000000))
+    (stepped_on (step_count old) (step_count mid) _ steps (search rules steps 1000000)) t
+
+pub returns-in-Err-clause-some : goal.returns-in-Err-clause-some
+returns-in-Err-clause-some g c = tt
+
+pub returns-in-Err-clause-generation : goal.returns-in-Err-clause-generation
+returns-in-Err-clause-generation g c = tt
+
+pub returns-in-Err-clause-same : goal.returns-in-Err-clause-same
+returns-in-Err-clause-same g c = tt

@@ -36,7 +36,7 @@ comes_to c =
     let ready : is_readable a.modes handle.nonblock n (since_or s.waits a.tick) a.tick tty ≡ true =
     ap (λ (w : ℕ). is_readable a.modes handle.nonblock n w a.tick tty) (sym since)
     ∙ (sym c.ready.ensures ∙ c.if-ready.true) in
-    let live : not handle.live ≡ false = search rules in
+    let live : not handle.live ≡ false = search rules steps 100000 in
     ap (λ (h : Option HandleState). reading_outcome t s n h) c.in-Some.is
     ∙ (ready_read t s n handle tty may live c.in-Tty.is ready
     ∙ ap (λ (x : NTtyState). gives (got (bytes_read a.modes n tty)) false (record t { disc = disc.Tty x }))
@@ -74,7 +74,7 @@ read-count-requires-clause-room c =
 
 pub returns-then-handle-clause-met : goal.returns-then-handle-clause-met
 returns-then-handle-clause-met c =
-    let live : not c.in-Some.handle.live ≡ false = search rules in
+    let live : not c.in-Some.handle.live ≡ false = search rules steps 100000 in
     let v = c.args.self.now in
     let comes =
     told_unready c.self.inside c.args.self.now c.args.state.now c.args.n c.args.handle c.in-Some.handle c.in-Tty.tty
@@ -86,7 +86,7 @@ returns-then-handle-clause-met c =
 
 pub returns-then-handle-clause-left : goal.returns-then-handle-clause-left
 returns-then-handle-clause-left c =
-    let live : not c.in-Some.handle.live ≡ false = search rules in
+    let live : not c.in-Some.handle.live ≡ false = search rules steps 100000 in
     let v = c.args.self.now in
     let comes =
     told_unready c.self.inside c.args.self.now c.args.state.now c.args.n c.args.handle c.in-Some.handle c.in-Tty.tty
@@ -98,7 +98,7 @@ returns-then-handle-clause-left c =
 
 pub returns-clause-met : goal.returns-clause-met
 returns-clause-met c =
-    let live : not c.in-Some.handle.live ≡ false = search rules in
+    let live : not c.in-Some.handle.live ≡ false = search rules steps 100000 in
     let v = c.args.self.now in
     let comes =
     told_unready c.self.inside c.args.self.now c.args.state.now c.args.n c.args.handle c.in-Some.handle c.in-Tty.tty
@@ -109,7 +109,7 @@ returns-clause-met c =
 
 pub returns-clause-left : goal.returns-clause-left
 returns-clause-left c =
-    let live : not c.in-Some.handle.live ≡ false = search rules in
+    let live : not c.in-Some.handle.live ≡ false = search rules steps 100000 in
     let v = c.args.self.now in
     let comes =
     told_unready c.self.inside c.args.self.now c.args.state.now c.args.n c.args.handle c.in-Some.handle c.in-Tty.tty

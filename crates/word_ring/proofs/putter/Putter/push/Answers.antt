@@ -1,4 +1,5 @@
-use Rattle.std.proofs.Common.{rules, sym, ap, subst, ◌∙◌, ◌/◌, length, ℕ}
+use Rattle.std.proofs.Common.{rules, arith, sym, ap, subst, ◌∙◌, ◌/◌, length, ℕ}
+use Rattle.std.proofs.lemmas.Grind.{common_steps}
 use Rattle.std.specs.List.Sorted.{IsNonDecreasing}
 use Rattle.word_ring.specs.declared.table.View.{View}
 use Rattle.word_ring.specs.Ends.{PutterState}
@@ -63,3 +64,6 @@ returns-clause-ordered c =
     let p = c.self.invariant.putting in
     let now = c.store.ensures.2.0 ∙ ap with_all_pushed c.store_lanes.ensures.stored in
     subst (λ (v : View). IsNonDecreasing v.heads) (sym now) p.rise
+
+pub returns-then-self-sent-clause-same : goal.returns-then-self-sent-clause-same
+returns-then-self-sent-clause-same c = grind (arith, common_steps) steps 300000

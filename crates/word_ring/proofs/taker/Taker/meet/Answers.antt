@@ -1,4 +1,5 @@
-use Rattle.std.proofs.Common.{rules, ap, subst, ◌∙◌, ℕ, ◌≤◌, List, length, All}
+use Rattle.std.proofs.Common.{rules, arith, ap, subst, ◌∙◌, ℕ, ◌≤◌, List, length, All}
+use Rattle.std.proofs.lemmas.Grind.{common_steps}
 use Rattle.word_ring.specs.Ends.{AreReleased}
 use Rattle.word_ring.proofs.Joining.{meets}
 use Rattle.word_ring.proofs.Keeps.{compares}
@@ -24,3 +25,6 @@ returns-clause-heads c =
       subst (λ (z : List ℕ × List ℕ). All (λ h. h ≤ length z.0) z.1) (λ i. (taken i, heads i))
           c.load-self-inside.ensures.2.3,
     )
+
+pub invariant_of-self : goal.invariant_of-self
+invariant_of-self c = grind (arith, common_steps) steps 1000000

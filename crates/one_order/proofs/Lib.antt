@@ -1,2 +1,0 @@
-pub mod OrderRows
-pub mod Places

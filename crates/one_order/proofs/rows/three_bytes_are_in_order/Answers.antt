@@ -1,5 +1,0 @@
-use Rattle.one_order.proofs.OrderRows.{three_bytes_in_order}
-use Rattle.one_order.proofs.rows.three_bytes_are_in_order.Goals as goal
-
-pub returns : goal.returns
-returns c = three_bytes_in_order

@@ -1,9 +1,0 @@
-//! The order of one thread: whose turn it is, and how much a flush takes.
-#![tactic(auto)]
-
-mod rows;
-
-pub use rows::{
-    a_console_ends_its_clock_first, moved_three_bytes_are_not_in_order,
-    moved_waiters_are_not_in_order, three_bytes_are_in_order, waiters_are_told_in_order,
-};

@@ -1,5 +1,0 @@
-use Rattle.passed_laws.proofs.Witnessed.{in_last, last_on}
-use Rattle.passed_laws.proofs.acts.calls_end.Goals as goal
-
-pub returns : goal.returns
-returns c = record { in_last = in_last; on = last_on }

@@ -1,5 +1,0 @@
-use Rattle.passed_laws.proofs.Witnessed.{begins_line, begins_playing}
-use Rattle.passed_laws.proofs.acts.phases_begin_to_be_played.Goals as goal
-
-pub returns : goal.returns
-returns c = record { line = begins_line; playing = begins_playing }

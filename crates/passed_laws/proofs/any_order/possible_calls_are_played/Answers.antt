@@ -1,5 +1,0 @@
-use Rattle.passed_laws.proofs.Possible.{any_begun, any_next, any_in_call, any_call_on}
-use Rattle.passed_laws.proofs.any_order.possible_calls_are_played.Goals as goal
-
-pub returns : goal.returns
-returns c = record { begun = any_begun; next = any_next; in_call = any_in_call; on = any_call_on }

@@ -1,5 +1,0 @@
-use Rattle.passed_laws.proofs.Possible.{any_in_last, any_last_on}
-use Rattle.passed_laws.proofs.any_order.possible_calls_end.Goals as goal
-
-pub returns : goal.returns
-returns c = record { in_last = any_in_last; on = any_last_on }

@@ -1,5 +1,0 @@
-use Rattle.passed_laws.proofs.Opens.{opens_with_none, nothing_before}
-use Rattle.passed_laws.proofs.laws.a_port_opens_with_nothing_passed.Goals as goal
-
-pub returns : goal.returns
-returns c = record { opens = opens_with_none; before = nothing_before }

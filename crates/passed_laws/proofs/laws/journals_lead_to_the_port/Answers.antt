@@ -1,5 +1,0 @@
-use Rattle.passed_laws.proofs.Laters.{later_before, terminal_now}
-use Rattle.passed_laws.proofs.laws.journals_lead_to_the_port.Goals as goal
-
-pub returns : goal.returns
-returns c = record { before = later_before; terminal = terminal_now }

@@ -1,5 +1,0 @@
-use Rattle.passed_laws.proofs.Blocks.{of_blocks, same_shape}
-use Rattle.passed_laws.proofs.laws.sessions_of_blocks_have_one_shape.Goals as goal
-
-pub returns : goal.returns
-returns c = record { of_blocks = of_blocks; shape = same_shape }

@@ -1,0 +1,5 @@
+use Rattle.std.proofs.Common.{rules}
+use Rattle.tty_embed.proofs.terminal.Tty.take_signal.Goals as goal
+
+pub returns-clause-after : goal.returns-clause-after
+returns-clause-after c = search rules steps 300000

@@ -1,0 +1,6 @@
+use Rattle.std.proofs.Common.{arith, rules}
+use Rattle.std.proofs.lemmas.Grind.{common_steps}
+use Rattle.vt_consoles.proofs.board.put_and_push.Goals as goal
+
+pub returns : goal.returns
+returns c = first_of (search rules steps 300000, grind (arith, common_steps) steps 300000)

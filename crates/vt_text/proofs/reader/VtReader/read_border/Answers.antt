@@ -1,0 +1,5 @@
+use Rattle.std.proofs.Common.{rules}
+use Rattle.vt_text.proofs.reader.VtReader.read_border.Goals as goal
+
+pub returns : goal.returns
+returns c = search rules steps 1000000
